@@ -1,0 +1,87 @@
+//! Commands, the entries of a history, and what their callers are told.
+
+use crate::{ClientId, Copied, EventId, NoMemory};
+use std::alloc::Global;
+
+/// What a client asks of the service, to be done at one place of the history.
+#[derive(Debug, Drop)]
+pub enum Command {
+    /// Makes the next event.
+    Create,
+}
+
+/// One client's command in a history.
+#[derive(Debug, Drop)]
+pub struct Entry {
+    pub client: ClientId,
+    /// The number of the command among those that this client began, from 1.
+    pub seq: u64,
+    pub command: Command,
+}
+
+/// What a command did.
+#[derive(Debug, Drop)]
+pub enum Reply {
+    /// The event that was made.
+    Created(EventId),
+}
+
+/// A reply, with the place of its entry in the history, from 1.
+#[derive(Debug, Drop)]
+pub struct Placed {
+    pub place: u64,
+    pub reply: Reply,
+}
+
+/// An entry of a history with its place, from 1, and its reply.
+#[derive(Debug, Drop)]
+pub struct DoneEntry {
+    pub place: u64,
+    pub entry: Entry,
+    pub reply: Reply,
+}
+
+impl Copied for Command {
+    fn copy(&self, _alloc: Global) -> Result<Self, NoMemory> {
+        match self {
+            Command::Create => Ok(Command::Create),
+        }
+    }
+}
+
+impl Copied for Entry {
+    fn copy(&self, alloc: Global) -> Result<Self, NoMemory> {
+        Ok(Entry {
+            client: self.client,
+            seq: self.seq,
+            command: self.command.copy(alloc)?,
+        })
+    }
+}
+
+impl Copied for Reply {
+    fn copy(&self, _alloc: Global) -> Result<Self, NoMemory> {
+        match self {
+            Reply::Created(id) => Ok(Reply::Created(*id)),
+        }
+    }
+}
+
+impl Copied for Placed {
+    fn copy(&self, alloc: Global) -> Result<Self, NoMemory> {
+        Ok(Placed {
+            place: self.place,
+            reply: self.reply.copy(alloc)?,
+        })
+    }
+}
+
+impl Copied for DoneEntry {
+    fn copy(&self, alloc: Global) -> Result<Self, NoMemory> {
+        Ok(DoneEntry {
+            place: self.place,
+            entry: self.entry.copy(alloc)?,
+            reply: self.reply.copy(alloc)?,
+        })
+    }
+}
