@@ -1,6 +1,8 @@
 -- How a history's births, references and done entries grow.
-use Rattle.std.proofs.Common.{◌≡◌, ℕ, ◌+◌, ◌<◌, ◌≤◌, Bool, true, false, cond, eqb, List, [], ◌∷◌, ◌++◌, length, refl, sym, ap, ◌∙◌, subst, arith, rules, append_assoc}
-use Rattle.std.specs.Prelude.{reverse, ◌↔◌}
+use Rattle.std.proofs.Common.{eq-eqb, ◌≡◌, ℕ, ◌+◌, ◌<◌, ◌≤◌, Bool, true, false, cond, eqb, List, [], ◌∷◌, ◌++◌, length, refl, sym, ap, ◌∙◌, subst, arith, rules, append_assoc}
+use Rattle.kr_order.specs.declared.ids.ClientId.{ClientId}
+use Rattle.kr_order.specs.declared.history.DoneEntry.{DoneEntry}
+use Rattle.std.specs.Prelude.{find, Option, Some, reverse, ◌↔◌}
 use Rattle.std.proofs.lemmas.Bool.Decides.{nat_tests}
 use Rattle.std.proofs.lemmas.List.Sums.{sum_by-append, sum_by-cons}
 use Rattle.std.proofs.lemmas.List.{reverse-append}
@@ -13,7 +15,7 @@ use Rattle.kr_order.specs.declared.history.Reply.TheVariants.{Created}
 use Rattle.kr_order.specs.Reply.{reply_to}
 use Rattle.kr_order.specs.Laws.{CreatedEventIsNew}
 use Rattle.kr_order.specs.References.{count_after, count_by_newest, IsLive}
-use Rattle.kr_order.specs.Done.{done_after, done_from, done_of}
+use Rattle.kr_order.specs.Done.{done_after, done_from, done_of, last_of}
 
 -- births of both parts are births of the whole
 pub born_in-append : (xs ys : List Entry) → born_in (xs ++ ys) ≡ born_in xs + born_in ys
@@ -78,3 +80,12 @@ created-new history entry event create replied =
       not_before = λ live. let before = (live-born history event).0 live in absurd (omega arith);
       after = (live-born (history ++ entry ∷ []) event).1 (omega (arith, now), omega (arith, now));
     }
+
+-- the last entry of a client, one entry later
+pub last_of-push : (client : ClientId) (dones : List DoneEntry) (done : DoneEntry) → last_of client (dones ++ done ∷ []) ≡ cond (eqb done.entry.client.0 client.0) (Some done) (last_of client dones)
+last_of-push client dones done = ap (find (λ d. eqb d.entry.client.0 client.0)) (reverse-append dones (done ∷ []))
+
+-- the entry that comes last in the history is its client's last
+pub last_of-own : (history : List Entry) (entry : Entry) → last_of entry.client (done_of (history ++ entry ∷ [])) ≡ Some (done_after history entry)
+last_of-own history entry =
+    ap (last_of entry.client) (done_of-push history entry) ∙ last_of-push entry.client (done_of history) (done_after history entry) ∙ ap (λ b. cond b (Some (done_after history entry)) (last_of entry.client (done_of history))) (eq-eqb entry.client.0 entry.client.0 refl)

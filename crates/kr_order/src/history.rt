@@ -33,6 +33,13 @@ pub struct Placed {
     pub reply: Reply,
 }
 
+/// What a client is told of its command of this sequence number.
+#[derive(Debug, Drop)]
+pub struct ToldReply {
+    pub seq: u64,
+    pub placed: Placed,
+}
+
 /// An entry of a history with its place, from 1, and its reply.
 #[derive(Debug, Drop)]
 pub struct DoneEntry {

@@ -12,7 +12,7 @@ pub mod laws;
 mod list;
 mod message;
 
-pub use history::{Command, DoneEntry, Entry, Placed, Reply};
+pub use history::{Command, DoneEntry, Entry, Placed, Reply, ToldReply};
 pub use ids::{ClientId, EventId, NoMemory, ServerId};
 pub use list::{Copied, DoneList, Entries, Listed, Packets};
 pub use message::{Message, Node, Packet};

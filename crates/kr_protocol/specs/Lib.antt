@@ -1,0 +1,4 @@
+pub mod Reaction
+pub mod Server
+pub mod Client
+pub mod Laws

@@ -1,0 +1,6 @@
+pub mod Refusal
+pub mod World
+pub mod Step
+pub mod Lines
+pub mod Run
+pub mod Rows

@@ -1,0 +1,32 @@
+//! Why a step is refused.
+
+ghost use Rattle.std.specs.Prelude.{Some};
+ghost use Rattle.kr_world.specs.Refusal.{refusal_word};
+
+use std::fmt;
+
+/// Why a step is refused. A refused step changes nothing.
+#[derive(Clone, Copy, Debug, PartialEq, Eq)]
+pub enum Refusal {
+    /// There is no client of that number.
+    NoSuchClient,
+    /// No packet of that number was sent.
+    NoSuchPacket,
+    /// The client has an open call.
+    Busy,
+    /// 65,000 packets or more were sent before the step.
+    BagFull,
+}
+
+impl fmt::Display for Refusal {
+    ghost output = { λ refusal. Some (refusal_word refusal) };
+
+    fn fmt<W: fmt::Write>(&self, f: &mut fmt::Formatter<W>) -> fmt::Result {
+        match self {
+            Refusal::NoSuchClient => write!(f, "NoSuchClient"),
+            Refusal::NoSuchPacket => write!(f, "NoSuchPacket"),
+            Refusal::Busy => write!(f, "Busy"),
+            Refusal::BagFull => write!(f, "BagFull"),
+        }
+    }
+}

@@ -1,0 +1,10 @@
+//! Scripts: the lines that say what a run of the cluster does, step by step.
+//!
+//! A script is lines, each ended by LF, in exactly one spelling: the first gives the numbers of servers and
+//! clients, each of the others is one event. The grammar is stated as the printing of a script; a reader
+//! answers the script that is spelt so, or the number of the first line that is in no script.
+#![tactic(auto)]
+
+mod script;
+
+pub use script::{Event, Script, ScriptEvents};
