@@ -81,6 +81,18 @@ impl<T> Listed<T> {
         self.items.push(item)?;
         Ok(())
     }
+
+    /// Moves all items of the other list to the end. After `NoMemory` the list is as before, and the other
+    /// list's items are dropped.
+    pub fn append(&mut self, mut more: Listed<T>) -> Result<(), NoMemory>
+    where
+        T: Drop,
+        ensures ok { OnOk result (self.new ≡ self.old ++ more) }
+        ensures err { OnErr result (self.new ≡ self.old) }
+    {
+        self.items.append(&mut more.items)?;
+        Ok(())
+    }
 }
 
 impl<T: Copied + Drop> Listed<T> {

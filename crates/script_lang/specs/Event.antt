@@ -1,8 +1,6 @@
 -- The lines of a script that give its events.
 use Rattle.std.specs.Prelude.{ℕ, ◌≤◌, List, ◌++◌, codes}
 use Rattle.std.specs.Fmt.{decimal}
-use Rattle.kr_order.specs.declared.ids.ClientId.{ClientId}
-use Rattle.kr_order.specs.declared.history.Command.{Command}
 use Rattle.kr_order.specs.Text.{command_word, command_words}
 use Rattle.script_lang.specs.declared.script.Event.{Event}
 use Rattle.script_lang.specs.declared.script.Event.TheVariants.{Call, Deliver}

@@ -1,3 +1,5 @@
 pub mod Line
 pub mod Event
 pub mod Script
+pub mod Reading
+pub mod Laws

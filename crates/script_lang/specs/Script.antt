@@ -1,5 +1,5 @@
 -- The grammar of scripts: what a script is, how it is spelt, and which line of other bytes is bad.
-use Rattle.std.specs.Prelude.{◌⊎◌, ◌≡◌, ◌≢◌, ℕ, ◌+◌, List, [], ◌∷◌, ◌++◌, length, codes}
+use Rattle.std.specs.Prelude.{◌⊎◌, ◌≡◌, ◌≢◌, ℕ, ◌+◌, List, [], ◌∷◌, ◌++◌, length, All, codes}
 use Rattle.std.specs.Fmt.{decimal}
 use Rattle.script_lang.specs.declared.script.Event.{Event}
 use Rattle.script_lang.specs.declared.script.Script.{Script}
@@ -11,14 +11,10 @@ pub record IsSize (servers clients : ℕ) : Type 0 where
   pub one_server : servers ≡ 1
   pub one_client : clients ≡ 1
 
-abbrev pub AreEvents : List Event → Type 0
-AreEvents [] = Unit {0}
-AreEvents (event ∷ events) = IsEvent event × AreEvents events
-
 -- a script that some bytes spell
 pub record IsScript (script : Script) : Type 0 where
   pub size : IsSize script.servers script.clients
-  pub each : AreEvents script.events
+  pub each : All IsEvent script.events
 
 -- the first line
 abbrev pub first_line : ℕ → ℕ → List ℕ
@@ -51,7 +47,7 @@ pub record StopsAt (bytes : List ℕ) (n : ℕ) : Type 0 where
   pub events : List Event
   pub rest : List ℕ
   pub size : IsSize servers clients
-  pub each : AreEvents events
+  pub each : All IsEvent events
   pub front : bytes ≡ first_line servers clients ++ event_lines events ++ rest
   pub more : rest ≢ []
   pub bad : BeginsWithEvent rest → ⊥

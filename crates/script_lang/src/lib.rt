@@ -5,6 +5,10 @@
 //! answers the script that is spelt so, or the number of the first line that is in no script.
 #![tactic(auto)]
 
+pub mod laws;
+mod line;
+mod read;
 mod script;
 
+pub use read::{ScriptStop, read_script};
 pub use script::{Event, Script, ScriptEvents};

@@ -1,0 +1,46 @@
+-- What the calls of a client do.
+use Rattle.std.specs.Prelude.{◌≡◌, Bool, true, false, [], ◌∷◌, Option, None, Result, Ok, Err, IsSome, is_some}
+use Rattle.kr_order.specs.declared.ids.NoMemory.{NoMemory as OutOfMemory}
+use Rattle.kr_order.specs.declared.history.Command.{Command}
+use Rattle.kr_order.specs.declared.message.Packet.{Packet}
+use Rattle.kr_protocol.specs.Client.{Hearing, begins, client_takes}
+use Rattle.client_session.specs.declared.client.CallStop.{CallStop}
+use Rattle.client_session.specs.declared.client.CallStop.TheVariants.{Busy, NoMemory}
+use Rattle.client_session.specs.declared.client.Heard.{Heard}
+use Rattle.client_session.specs.Standing.{Standing}
+
+-- the call was opened, and its request is to be sent
+pub record Opens (old : Standing) (command : Command) (packet : Packet) (new : Standing) : Type 0 where
+  pub idle : old.client.call ≡ None
+  pub whole : old.failed ≡ false
+  pub after : new ≡ record { client = (begins old.client command).after; failed = false }
+  pub sent : (begins old.client command).sent ≡ packet ∷ []
+
+-- a call is open already, and stays
+pub record StaysBusy (old new : Standing) : Type 0 where
+  pub busy : IsSome old.client.call
+  pub whole : old.failed ≡ false
+  pub after : new ≡ old
+
+abbrev pub Begins : Standing → Command → Result Packet CallStop → Standing → Type 0
+Begins old command (Ok packet) new = Opens old command packet new
+Begins old command (Err Busy) new = StaysBusy old new
+Begins old command (Err NoMemory) new = new.failed ≡ true
+
+-- the client does as this hearing says, or has failed
+pub record Heeds (hearing : Hearing) (heard : Heard) (new : Standing) : Type 0 where
+  pub after : new ≡ record { client = hearing.after; failed = false }
+  pub told : heard.told ≡ hearing.told
+
+abbrev pub Hears : Hearing → Result Heard OutOfMemory → Standing → Type 0
+Hears hearing (Ok heard) new = Heeds hearing heard new
+Hears hearing (Err stop) new = new.failed ≡ true
+
+-- a packet was taken, which a client that has failed does not
+pub record Accepts (old : Standing) (packet : Packet) (heard : Heard) (new : Standing) : Type 0 where
+  pub whole : old.failed ≡ false
+  pub heeds : Heeds (client_takes old.client packet) heard new
+
+abbrev pub Takes : Standing → Packet → Result Heard OutOfMemory → Standing → Type 0
+Takes old packet (Ok heard) new = Accepts old packet heard new
+Takes old packet (Err stop) new = new.failed ≡ true

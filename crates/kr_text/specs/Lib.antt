@@ -1,0 +1,4 @@
+pub mod Causes
+pub mod Number
+pub mod Reads
+pub mod Writes

@@ -1,0 +1,21 @@
+//! Bytes that come from outside and go there, and the numbers written in them.
+//!
+//! Contracts see a `Source` by the bytes that it has left and a `Sink` by the bytes that it holds, where the
+//! type tells them, and both by a count of faults that never falls. The words stand in `specs/Causes`.
+#![tactic(auto)]
+
+mod memory;
+mod number;
+mod outside;
+mod read;
+mod real;
+#[cfg(test)]
+mod tests;
+mod write;
+
+pub use memory::{FailingSink, FailingSource, NoFaultSink, NoFaultSource};
+pub use number::{put_number, read_number};
+pub use outside::{Failed, Sink, Source};
+pub use read::{ReadStop, read_all};
+pub use real::{StdSink, StdSource};
+pub use write::{WriteStop, write_all};

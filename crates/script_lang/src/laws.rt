@@ -1,0 +1,18 @@
+//! Laws of the grammar. Each function does nothing: its contract is the law, whose proof is checked with it.
+
+ghost use Rattle.script_lang.specs.Laws.{BadLinesAreInNoScript, TheBadLineIsOne, ASpellingIsOfOneScript};
+
+/// Bytes with a bad line spell no script.
+pub fn bad_lines_are_in_no_script()
+    ensures { BadLinesAreInNoScript }
+{}
+
+/// There is one first bad line.
+pub fn the_bad_line_is_one()
+    ensures { TheBadLineIsOne }
+{}
+
+/// Bytes spell at most one script.
+pub fn a_spelling_is_of_one_script()
+    ensures { ASpellingIsOfOneScript }
+{}

@@ -1,0 +1,21 @@
+//! Bytes cut at their first LF, and behind a front.
+
+ghost use Rattle.std.specs.Prelude.{◌≡◌, ◌≢◌, ℕ, List, ◌++◌, IfSome, IfNone, MatchOption};
+ghost use Rattle.script_lang.specs.Line.{HasNoEnd, IsCut};
+
+// The bytes before the first LF, and those after it.
+pub(crate) fn split_line(bytes: &[u8]) -> Option<(&[u8], &[u8])>
+    ensures { MatchOption result (HasNoEnd bytes.now) (λ cut. IsCut bytes.now cut.0.now cut.1.now) }
+{
+    let end = bytes.iter().position(|b| *b == b'\n')?;
+    let (text, rest) = bytes.split_at(end);
+    Some((text, rest.split_at(1).1))
+}
+
+// The bytes after the front, where they begin with it.
+pub(crate) fn behind<'a>(bytes: &'a [u8], front: &[u8]) -> Option<&'a [u8]>
+    ensures some { IfSome result (λ rest. bytes.now ≡ front.now ++ rest.now) }
+    ensures none { IfNone result ((rest : List ℕ) → bytes.now ≢ front.now ++ rest) }
+{
+    bytes.strip_prefix(front)
+}
