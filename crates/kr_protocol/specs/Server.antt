@@ -18,21 +18,21 @@ pub record Server : Type 0 where
   pub id : ServerId
   pub log : List Entry
 
--- the reply of an applied entry, for its client
-abbrev pub reply_packet : ServerId → DoneEntry → Packet
-reply_packet id done =
-    record { from = FromServer id; to = Client done.entry.client; message = Replied done.entry.seq (record { place = done.place; reply = done.reply }) }
+-- the reply of an applied entry, for the client that asks
+abbrev pub reply_packet : ServerId → ClientId → DoneEntry → Packet
+reply_packet id client done =
+    record { from = FromServer id; to = Client client; message = Replied done.entry.seq (record { place = done.place; reply = done.reply }) }
 
 -- the entry goes to the end of the log, is applied, and its client is told
 abbrev pub enters : Server → Entry → Reaction Server
 enters server entry =
-    record { after = record server { log = server.log ++ entry ∷ [] }; sent = reply_packet server.id (done_after server.log entry) ∷ [] }
+    record { after = record server { log = server.log ++ entry ∷ [] }; sent = reply_packet server.id entry.client (done_after server.log entry) ∷ [] }
 
 -- a command that may be the client's last applied one once more
 abbrev pub requested : Server → Entry → Option DoneEntry → Reaction Server
 requested server entry None = enters server entry
 requested server entry (Some last) =
-    if last.entry.seq == entry.seq then record { after = server; sent = reply_packet server.id last ∷ [] } else (if nat_lt last.entry.seq entry.seq then enters server entry else ignored server)
+    if last.entry.seq == entry.seq then record { after = server; sent = reply_packet server.id entry.client last ∷ [] } else (if nat_lt last.entry.seq entry.seq then enters server entry else ignored server)
 
 abbrev pub after_request : Server → ClientId → ℕ → Command → Reaction Server
 after_request server client seq command =

@@ -4,3 +4,5 @@ pub mod Step
 pub mod Lines
 pub mod Run
 pub mod Rows
+pub mod Sound
+pub mod Lawful

@@ -1,3 +1,10 @@
 //! Laws of runs. Each function does nothing: its contract is the law, whose proof is checked with it.
 
+ghost use Rattle.kr_world.specs.Sound.{WorldsAreSound};
+
 pub mod rows;
+
+/// Every world of a run is sound.
+pub fn worlds_are_sound()
+    ensures { WorldsAreSound }
+{}

@@ -7,24 +7,20 @@ ghost use Rattle.kr_world.specs.Rows.{create_an_event, create_an_event_text, req
 /// One server, one client, one create.
 pub fn one_create()
     ensures { text_of create_an_event ≡ create_an_event_text }
-{
-}
+{}
 
 /// The request comes twice: the second time its reply is sent again. The reply comes twice: the client takes
 /// the first.
 pub fn a_repeated_request_has_one_place()
     ensures { text_of request_delivered_twice ≡ request_delivered_twice_text }
-{
-}
+{}
 
 /// Each refused word but the one for a full bag.
 pub fn refused_steps_change_nothing()
     ensures { text_of refused_steps ≡ refused_steps_text }
-{
-}
+{}
 
 /// A second create gives the second event.
 pub fn events_are_numbered_in_order()
     ensures { text_of two_events ≡ two_events_text }
-{
-}
+{}

@@ -1,0 +1,28 @@
+-- What the calls of a server do.
+use Rattle.std.specs.Prelude.{◌≡◌, ◌++◌, true, false, [], Result, Ok, Err}
+use Rattle.kr_order.specs.declared.ids.ServerId.{ServerId}
+use Rattle.kr_order.specs.declared.ids.NoMemory.{NoMemory as OutOfMemory}
+use Rattle.kr_order.specs.declared.message.Packet.{Packet}
+use Rattle.kr_order.specs.Done.{done_of}
+use Rattle.kr_protocol.specs.Reaction.{Reaction}
+use Rattle.kr_protocol.specs.Server.{Server, server_takes}
+use Rattle.chain_server.specs.declared.server.Effects.{Effects}
+use Rattle.chain_server.specs.Standing.{Standing}
+
+abbrev pub new_server : ServerId → Standing
+new_server id = record { server = record { id = id; log = [] }; failed = false }
+
+-- the server does as this reaction says, and tells the entries that it has newly applied
+pub record Heeds (old : Standing) (reaction : Reaction Server) (effects : Effects) (new : Standing) : Type 0 where
+  pub whole : old.failed ≡ false
+  pub after : new ≡ record { server = reaction.after; failed = false }
+  pub sent : effects.packets ≡ reaction.sent
+  pub committed : done_of reaction.after.log ≡ done_of old.server.log ++ effects.committed
+
+-- the server does as this reaction says, or has failed
+abbrev pub Does : Standing → Reaction Server → Result Effects OutOfMemory → Standing → Type 0
+Does old reaction (Ok effects) new = Heeds old reaction effects new
+Does old reaction (Err stop) new = new.failed ≡ true
+
+abbrev pub Takes : Standing → Packet → Result Effects OutOfMemory → Standing → Type 0
+Takes old packet result new = Does old (server_takes old.server packet) result new
