@@ -1,4 +1,5 @@
 pub mod Causes
+pub mod Memory
 pub mod Number
 pub mod Reads
 pub mod Writes

@@ -1,13 +1,14 @@
 -- What writing a whole text gives, and what the sink took.
-use Rattle.std.specs.Prelude.{ℕ, List, take, Option, Result, Ok, Err}
+use Rattle.std.specs.Prelude.{ℕ, ◌<◌, List, length, take, Option, Result, Ok, Err}
 use Rattle.std.specs.Io.KnownBytes.{Appends}
 use Rattle.kr_text.specs.Causes.{Rose}
 use Rattle.kr_text.specs.declared.write.WriteStop.{WriteStop}
 use Rattle.kr_text.specs.declared.write.WriteStop.TheVariants.{Fault}
 
--- the sink took a front of the text before a fault
+-- the sink took a front of the text, and not all of it, before a fault
 pub record TookBeforeFault (text : List ℕ) (held held' : Option (List ℕ)) (faults faults' : ℕ) : Type 0 where
   pub count : ℕ
+  pub short : count < length text
   pub taken : Appends held held' (take count text)
   pub rose : Rose faults faults'
 

@@ -1,7 +1,8 @@
 //! Bytes that come from outside and go there, and the numbers written in them.
 //!
 //! Contracts see a `Source` by the bytes that it has left and a `Sink` by the bytes that it holds, where the
-//! type tells them, and both by a count of faults that never falls. The words stand in `specs/Causes`.
+//! type tells them, and both by a count of faults that never falls. An answer that blames the outside comes
+//! only where that count rose, or stands at its end.
 #![tactic(auto)]
 
 mod memory;

@@ -32,8 +32,10 @@ fn parse_plain(text: &[u8]) -> Option<u64>
     digits.parse::<u64>().ok()
 }
 
-/// The number that the text spells, if it is at most `most`. A text spells a number in one way: `0`, or a
-/// digit from 1 to 9 and then digits.
+/// The number that the text spells, if it is at most `most`.
+///
+/// A text spells a number in one way: `0`, or a digit from 1 to 9 and then digits. So the empty text, a sign,
+/// a zero in front of a digit and any other byte are answered by `None`, as is a greater number.
 pub fn read_number(text: &[u8], most: u64) -> Option<u64>
     ensures some { IfSome result (λ n. (n ≤ most) × (text.now ≡ decimal n)) }
     ensures none { IfNone result ((n : ℕ) → n ≤ most → text.now ≢ decimal n) }
@@ -42,7 +44,8 @@ pub fn read_number(text: &[u8], most: u64) -> Option<u64>
     if n <= most { Some(n) } else { None }
 }
 
-/// Writes the number's digits behind what `out` holds.
+/// Writes the number's digits, at most 20 bytes, behind what `out` holds. `NoMemory` comes where there is no
+/// memory for them, and leaves `out` as it was.
 pub fn put_number(out: &mut Vec<u8>, n: u64) -> Result<(), NoMemory>
     ensures ok { OnOk result (out.new.items ≡ out.old.items ++ decimal n) }
     ensures err { OnErr result (out.new.items ≡ out.old.items) }

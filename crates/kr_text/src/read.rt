@@ -10,10 +10,13 @@ use thiserror::Error;
 /// Why an input was not read whole.
 #[derive(Clone, Copy, Debug, PartialEq, Eq, Error)]
 pub enum ReadStop {
+    /// A read failed.
     #[error("the input could not be read")]
     Fault,
+    /// The source gave a byte past the limit.
     #[error("the input is too long")]
     TooLong,
+    /// There was no memory to keep the bytes.
     #[error("out of memory")]
     NoMemory,
 }
@@ -32,8 +35,13 @@ impl From<AllocError> for ReadStop {
 // How many bytes are asked for at once, at most.
 const CHUNK: usize = 4096;
 
-/// Reads from the source to its end, and answers all that it gave: at most `limit` bytes, and `TooLong`
-/// comes where the source gave one byte more.
+/// Reads from the source to its end and answers all bytes that it gave, at most `limit`, a number of bytes
+/// below 2^63.
+///
+/// It asks for at most 4096 bytes at once and for at most `limit + 1` in all, and takes time in proportion to
+/// what it was given. `TooLong` comes where the source gave a byte past the limit, `Fault` where a read failed,
+/// and `NoMemory` where the bytes, at most `limit`, could not be kept. Bytes that were read before an error
+/// are lost.
 pub fn read_all<S: Source>(alloc: Global, source: &mut S, limit: usize) -> Result<Vec<u8>, ReadStop>
     requires { limit < 2 ^ 63 }
     ensures later { S.faults source.old ≤ S.faults source.new }

@@ -5,7 +5,8 @@ ghost use Rattle.std.specs.Prelude.{◌≡◌};
 use crate::{Failed, Sink, Source};
 use std::io::{Read, Write};
 
-/// A source over a reader, such as standard input. Every error that the reader answers is a fault.
+/// A source over a reader, such as standard input. Every error that the reader answers is a fault, that of
+/// an interrupted call too.
 #[derive(Debug, Drop)]
 pub struct StdSource<R> {
     inner: R,
@@ -38,8 +39,8 @@ impl<R: Read> Source for StdSource<R> {
     }
 }
 
-/// A sink over a writer, such as standard output. Every error that the writer answers is a fault, and so is
-/// a write that takes nothing of a piece that is not empty.
+/// A sink over a writer, such as standard output. Every error that the writer answers is a fault, that of an
+/// interrupted call too, and so is a write that takes nothing of a piece that is not empty.
 #[derive(Debug, Drop)]
 pub struct StdSink<W> {
     inner: W,

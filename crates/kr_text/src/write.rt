@@ -9,12 +9,14 @@ use thiserror::Error;
 /// Why a text was not written whole.
 #[derive(Clone, Copy, Debug, PartialEq, Eq, Error)]
 pub enum WriteStop {
+    /// A write failed.
     #[error("the output could not be written")]
     Fault,
 }
 
-/// Writes the text, in as many pieces as the sink asks for. It takes no memory. `Fault` comes where a write
-/// failed, and the sink has then taken a front of the text.
+/// Writes the text, in as many pieces as the sink takes it in. It takes no memory.
+///
+/// `Fault` comes where a write failed. The sink has then taken a front of the text and not all of it.
 pub fn write_all<K: Sink>(sink: &mut K, text: &[u8]) -> Result<(), WriteStop>
     ensures later { K.faults sink.old ≤ K.faults sink.new }
     ensures writes { Writes text.now result (K.held sink.old) (K.held sink.new)

@@ -7,7 +7,8 @@ pub returns-then-count-room-clause-reads : goal.returns-then-count-room-clause-r
 returns-then-count-room-clause-reads g c =
     let bytes = c.loop-count.bytes.items in
     let piece = take c.in-Ok.count c.read.new.buf in
-    let over : length bytes + length piece ≡ c.args.limit + 1 = omega (arith, c.in-Ok.ensures.bound, length-take c.min-most.result c.loop-count.chunk) in
+    let asked = length-take c.min-most.result c.loop-count.chunk in
+    let over : length bytes + length piece ≡ c.args.limit + 1 = omega (arith, c.in-Ok.ensures.bound, asked) in
     gave_too_many _ _ (g.S.Source.left c.loop-count.source) _ bytes piece
     c.loop-count.invariant.taken c.in-Ok.ensures.bytes.0 over
 

@@ -1,0 +1,99 @@
+//! The cluster and its calls.
+
+ghost use Rattle.std.specs.Prelude.{◌≡◌, false, OnOk, IfOk};
+ghost use Rattle.kr_order.specs.Done.{done_of};
+ghost use Rattle.script_lang.specs.Script.{IsSize};
+ghost use Rattle.kr_world.specs.World.{first_world};
+ghost use Rattle.kr_world.specs.Lines.{end_lines};
+ghost use Rattle.cluster_sim.specs.Steps.{Steps};
+
+use crate::lines::{Lines, end_lines, step_lines};
+use crate::parts::Parts;
+use crate::step::step;
+use chain_server::Server;
+use client_session::Client;
+use kr_order::{ClientId, DoneList, NoMemory, Packets, ServerId};
+use script_lang::Event;
+use std::alloc::Global;
+use std::marker::Model;
+use std::thread::Threads;
+
+/// A cluster of servers and clients in one process.
+#[derive(Debug, Drop)]
+pub struct Cluster {
+    alloc: Global,
+    parts: Parts,
+    failed: bool,
+}
+
+impl Model for Cluster {
+    ghost use Rattle.std.specs.Prelude.{◌≡◌, false};
+    ghost use Rattle.cluster_sim.specs.Standing.{Standing};
+
+    ghost Value = { Standing };
+
+    ghost use Rattle.cluster_sim.specs.Parts.{world_of, IsWhole};
+
+    ghost view = { λ c. record { world = world_of c.parts; failed = c.failed } };
+
+    ghost invariant = { λ c. c.failed ≡ false → IsWhole c.parts };
+}
+
+impl Cluster {
+    /// A cluster of one server and one client, before its first step. `NoMemory` comes where there is no memory
+    /// for the nodes.
+    pub fn new(alloc: Global, servers: u32, clients: u32) -> Result<Cluster, NoMemory>
+        requires { IsSize servers clients }
+        ensures { IfOk result (λ cluster. cluster ≡ record { world = first_world; failed = false }) }
+    {
+        let mut nodes = Vec::new(alloc);
+        nodes.push(Server::founder(alloc, ServerId(1)))?;
+        let mut callers = Vec::new(alloc);
+        callers.push(Client::new(alloc, ClientId(1)))?;
+        Ok(Cluster {
+            alloc,
+            parts: Parts {
+                servers: nodes,
+                clients: callers,
+                bag: Packets::new(alloc),
+                journal: DoneList::new(alloc),
+            },
+            failed: false,
+        })
+    }
+
+    /// Does one step, and answers its lines. A step that is refused changes nothing and answers a line that
+    /// says why. After `NoMemory` the cluster has failed.
+    pub fn step<R: Threads + Sync>(&mut self, _rt: &R, event: &Event) -> Result<Lines, NoMemory>
+        ensures { Steps self.old event.now result self.new }
+    {
+        if self.failed {
+            return Err(NoMemory);
+        }
+        self.failed = true;
+        let entries = self.parts.journal.len();
+        let sent = self.parts.bag.len();
+        let noted = step(self.alloc, &mut self.parts, event)?;
+        let lines = step_lines(self.alloc, entries, sent, &self.parts, &noted)?;
+        self.failed = false;
+        Ok(lines)
+    }
+
+    /// The lines of the whole history, at the end of a run. It changes nothing.
+    pub fn finish(&self) -> Result<Lines, NoMemory>
+        ensures whole { OnOk result (self.now.failed ≡ false) }
+        ensures lines { IfOk result (λ lines. lines ≡ end_lines self.now.world.history) }
+    {
+        if self.failed {
+            return Err(NoMemory);
+        }
+        end_lines(self.alloc, self.parts.journal.as_slice())
+    }
+
+    /// The history, each entry with its place and its reply. Of a cluster that has failed nothing is said.
+    pub fn journal(&self) -> &DoneList
+        ensures { self.now.failed ≡ false → result.now ≡ done_of self.now.world.history }
+    {
+        &self.parts.journal
+    }
+}

@@ -1,0 +1,43 @@
+//! The parts of a cluster: its nodes, every packet that was sent, and the journal of the history.
+
+ghost use Rattle.std.specs.Prelude.{◌≡◌, None};
+
+use chain_server::Server;
+use client_session::Client;
+use kr_order::{ClientId, DoneList, Packets, ToldReply};
+use kr_world::Refusal;
+
+/// The parts of a cluster.
+#[derive(Debug, Drop)]
+pub struct Parts {
+    pub servers: Vec<Server>,
+    pub clients: Vec<Client>,
+    pub bag: Packets,
+    pub journal: DoneList,
+}
+
+/// A reply that a client was told.
+#[derive(Debug, Drop)]
+pub struct Telling {
+    pub client: ClientId,
+    pub reply: ToldReply,
+}
+
+/// What a step did beside its change of the parts.
+#[derive(Debug, Drop)]
+pub struct Noted {
+    pub told: Option<Telling>,
+    pub refused: Option<Refusal>,
+}
+
+impl Noted {
+    /// Nothing was told, nothing refused.
+    pub fn nothing() -> Self
+        ensures { result ≡ record { told = None; refused = None } }
+    {
+        Noted {
+            told: None,
+            refused: None,
+        }
+    }
+}
