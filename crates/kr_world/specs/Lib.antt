@@ -6,3 +6,4 @@ pub mod Run
 pub mod Rows
 pub mod Sound
 pub mod Lawful
+pub mod Facts

@@ -1,0 +1,98 @@
+-- Packets stay true, and the replies of entries are true.
+use Rattle.std.proofs.Common.{◌≡◌, ℕ, ◌+◌, ◌-◌, ◌<◌, ◌≤◌, List, [], ◌∷◌, ◌++◌, length, take, refl, sym, ap, ◌∙◌, subst, arith}
+use Rattle.std.specs.Prelude.{Some, slice_get, All}
+use Rattle.std.proofs.lemmas.List.{take-append-le, take_at}
+use Rattle.std.proofs.lemmas.List.Elements.{All-append, All-weaker}
+use Rattle.std.proofs.lemmas.Option.{slice_get_within}
+use Rattle.kr_order.specs.declared.ids.ClientId.{ClientId}
+use Rattle.kr_order.specs.declared.history.Command.{Command}
+use Rattle.kr_order.specs.declared.history.Entry.{Entry}
+use Rattle.kr_order.specs.declared.history.DoneEntry.{DoneEntry}
+use Rattle.kr_order.specs.declared.history.Placed.{Placed}
+use Rattle.kr_order.specs.declared.message.Node as nodes
+use Rattle.kr_order.specs.declared.message.Node.TheVariants.{Manager, Client as AtClient, Server as AtServer}
+use Rattle.kr_order.specs.declared.message.Message.{Message}
+use Rattle.kr_order.specs.declared.message.Message.TheVariants.{Request, Replied}
+use Rattle.kr_order.specs.declared.message.Packet.{Packet}
+use Rattle.kr_order.specs.Reply.{reply_to}
+use Rattle.kr_world.specs.Run.{Turn}
+use Rattle.kr_world.specs.Step.{Told}
+use Rattle.kr_world.specs.Lawful.{IsFrontOf, IsToldTruly, begun_by}
+use Rattle.kr_world.specs.Facts.{HasBegun, StandsAt, IsTrueRequest, IsTrueReply, IsTrueMessage, IsTruePacket}
+use Rattle.kr_world.proofs.ListFacts.{slice_get_left, slice_get_at}
+use Rattle.kr_world.proofs.PastLemmas.{begun_by-append}
+use Rattle.kr_world.proofs.EntryLemmas.{IsLastDone}
+
+pub same_client : (a b : ClientId) → a.0 ≡ b.0 → a ≡ b
+same_client a b is = let id : ℕ → ClientId = λ n. record { 0 = n } in ap id is
+
+begun_later : (past more : List Turn) (caller : ClientId) (seq : ℕ) (command : Command) → HasBegun past caller seq command → HasBegun (past ++ more) caller seq command
+begun_later past more caller seq command known =
+    record {
+      caller_low = known.caller_low;
+      seq_low = known.seq_low;
+      begun = ap (λ b. slice_get b (seq - 1)) (begun_by-append caller past more) ∙ slice_get_left (begun_by caller past) (begun_by caller more) (seq - 1) command known.begun;
+    }
+
+stands_later : (history more : List Entry) (caller : ClientId) (seq : ℕ) (placed : Placed) → StandsAt history caller seq placed → StandsAt (history ++ more) caller seq placed
+stands_later history more caller seq placed known =
+    let within = slice_get_within history (placed.place - 1) known.entry known.stands in
+    let front : take (placed.place - 1) (history ++ more) ≡ take (placed.place - 1) history = take-append-le (placed.place - 1) history more (omega arith) in
+    record {
+      entry = known.entry;
+      caller_low = known.caller_low;
+      place_low = known.place_low;
+      stands = slice_get_left history more (placed.place - 1) known.entry known.stands;
+      client = known.client;
+      seq_is = known.seq_is;
+      reply = known.reply ∙ ap (λ h. reply_to h known.entry.command) (sym front);
+    }
+
+request_later : (past more : List Turn) (from : nodes.Node) (seq : ℕ) (command : Command) → IsTrueRequest past from seq command → IsTrueRequest (past ++ more) from seq command
+request_later past more Manager seq command known = known
+request_later past more (AtClient client) seq command known = begun_later past more client seq command known
+request_later past more (AtServer server) seq command known = known
+
+reply_later : (history more : List Entry) (to : nodes.Node) (seq : ℕ) (placed : Placed) → IsTrueReply history to seq placed → IsTrueReply (history ++ more) to seq placed
+reply_later history more Manager seq placed known = known
+reply_later history more (AtClient client) seq placed known = stands_later history more client seq placed known
+reply_later history more (AtServer server) seq placed known = known
+
+message_later : (past turns : List Turn) (history more : List Entry) (from to : nodes.Node) (message : Message) → IsTrueMessage past history from to message → IsTrueMessage (past ++ turns) (history ++ more) from to message
+message_later past turns history more from to (Request seq command) known = request_later past turns from seq command known
+message_later past turns history more from to (Replied seq placed) known = reply_later history more to seq placed known
+
+packet_later : (past turns : List Turn) (history later : List Entry) (packet : Packet) → IsFrontOf history later → IsTruePacket past history packet → IsTruePacket (past ++ turns) later packet
+packet_later past turns history later packet front known =
+    subst (λ h. IsTruePacket (past ++ turns) h packet) (sym front.is) (message_later past turns history front.more packet.from packet.to packet.message known)
+
+-- the packets of the bag stay true, and with true ones all are true
+pub packets_later : (past turns : List Turn) (history later : List Entry) (bag sent : List Packet) → IsFrontOf history later → All (IsTruePacket past history) bag → All (IsTruePacket past later) sent → All (IsTruePacket (past ++ turns) later) (bag ++ sent)
+packets_later past turns history later bag sent front known new = ?
+
+-- an entry stands at its place
+pub entry_stands : (before : List Entry) (entry : Entry) (after : List Entry) → 1 ≤ entry.client.0 → StandsAt (before ++ entry ∷ after) entry.client entry.seq (record { place = length before + 1; reply = reply_to before entry.command })
+entry_stands before entry after low =
+    let index : length before ≡ length before + 1 - 1 = omega arith in
+    record {
+      entry = entry;
+      caller_low = low;
+      place_low = omega arith;
+      stands = slice_get_at before entry after (length before + 1 - 1) index;
+      client = refl;
+      seq_is = refl;
+      reply = ap (λ h. reply_to h entry.command) (sym (take_at before (entry ∷ after) (length before + 1 - 1) index));
+    }
+
+-- so does the last of the client's
+pub done_stands : (caller : ClientId) (history : List Entry) (done : DoneEntry) → 1 ≤ caller.0 → IsLastDone caller history done → StandsAt history caller done.entry.seq (record { place = done.place; reply = done.reply })
+done_stands caller history done low last =
+    let own = last.own in
+    let stands = entry_stands last.before done.entry last.after (omega arith) in
+    let placed : DoneEntry → Placed = λ d. record { place = d.place; reply = d.reply } in
+    subst (λ h. StandsAt h caller done.entry.seq (record { place = done.place; reply = done.reply })) (sym last.split) (subst (λ p. StandsAt (last.before ++ done.entry ∷ last.after) caller done.entry.seq p) (sym (ap placed last.done_is)) (subst (λ c. StandsAt (last.before ++ done.entry ∷ last.after) c done.entry.seq (record { place = length last.before + 1; reply = reply_to last.before done.entry.command })) (same_client done.entry.client caller last.own) stands))
+
+-- what a client is told of what stands
+pub told_truly : (history : List Entry) (seen : ℕ) (caller : ClientId) (seq : ℕ) (placed : Placed) → StandsAt history caller seq placed → seen < placed.place → IsToldTruly history seen (record { client = caller; reply = record { seq = seq; placed = placed } })
+told_truly history seen caller seq placed known past_seen =
+    record { entry = known.entry; past_seen = past_seen; stands = known.stands; client = known.client; seq = known.seq_is; reply = known.reply }
