@@ -1,4 +1,6 @@
+pub mod CallLemmas
 pub mod EntryLemmas
+pub mod KeepLemmas
 pub mod ListFacts
 pub mod PacketLemmas
 pub mod PastLemmas

@@ -2,7 +2,7 @@
 use Rattle.std.proofs.Common.{◌≡◌, ℕ, ◌+◌, ◌-◌, ◌<◌, ◌≤◌, List, [], ◌∷◌, ◌++◌, length, take, refl, sym, ap, ◌∙◌, subst, arith}
 use Rattle.std.specs.Prelude.{Some, slice_get, All}
 use Rattle.std.proofs.lemmas.List.{take-append-le, take_at}
-use Rattle.std.proofs.lemmas.List.Elements.{All-append, All-weaker}
+use Rattle.std.proofs.lemmas.List.Elements.{All-weaker}
 use Rattle.std.proofs.lemmas.Option.{slice_get_within}
 use Rattle.kr_order.specs.declared.ids.ClientId.{ClientId}
 use Rattle.kr_order.specs.declared.history.Command.{Command}
@@ -66,9 +66,10 @@ packet_later : (past turns : List Turn) (history later : List Entry) (packet : P
 packet_later past turns history later packet front known =
     subst (λ h. IsTruePacket (past ++ turns) h packet) (sym front.is) (message_later past turns history front.more packet.from packet.to packet.message known)
 
--- the packets of the bag stay true, and with true ones all are true
-pub packets_later : (past turns : List Turn) (history later : List Entry) (bag sent : List Packet) → IsFrontOf history later → All (IsTruePacket past history) bag → All (IsTruePacket past later) sent → All (IsTruePacket (past ++ turns) later) (bag ++ sent)
-packets_later past turns history later bag sent front known new = ?
+-- the packets of a bag stay true
+pub packets_later : (past turns : List Turn) (history later : List Entry) (bag : List Packet) → IsFrontOf history later → All (IsTruePacket past history) bag → All (IsTruePacket (past ++ turns) later) bag
+packets_later past turns history later bag front known =
+    All-weaker (IsTruePacket past history) (IsTruePacket (past ++ turns) later) (λ packet true_then. packet_later past turns history later packet front true_then) bag known
 
 -- an entry stands at its place
 pub entry_stands : (before : List Entry) (entry : Entry) (after : List Entry) → 1 ≤ entry.client.0 → StandsAt (before ++ entry ∷ after) entry.client entry.seq (record { place = length before + 1; reply = reply_to before entry.command })
