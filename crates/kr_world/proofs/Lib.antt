@@ -1,8 +1,11 @@
 pub mod CallLemmas
 pub mod EntryLemmas
+pub mod HearLemmas
 pub mod KeepLemmas
+pub mod LawfulLemmas
 pub mod ListFacts
 pub mod PacketLemmas
 pub mod PastLemmas
+pub mod ServerLemmas
 pub mod SoundLemmas
 pub mod StepLemmas

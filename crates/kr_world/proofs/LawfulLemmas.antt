@@ -1,0 +1,129 @@
+-- Every step keeps the facts, so every run is lawful.
+use Rattle.std.proofs.Common.{zero, suc, ◌≡◌, ℕ, ◌+◌, ◌-◌, ◌<◌, ◌≤◌, List, [], ◌∷◌, ◌++◌, length, take, refl, sym, ap, ◌∙◌, subst, arith}
+use Rattle.std.specs.Prelude.{Option, None, Some, slice_get, All}
+use Rattle.std.proofs.lemmas.List.{append-nil, append_assoc}
+use Rattle.std.proofs.lemmas.List.Elements.{All-nil, All-cons, All-head, All-tail}
+use Rattle.std.proofs.lemmas.Option.{none-some, same_Some}
+use Rattle.kr_order.specs.declared.ids.ClientId.{ClientId}
+use Rattle.kr_order.specs.declared.history.Command.{Command}
+use Rattle.kr_order.specs.declared.history.Entry.{Entry}
+use Rattle.kr_order.specs.declared.message.Node as nodes
+use Rattle.kr_order.specs.declared.message.Node.TheVariants.{Manager, Client as AtClient, Server as AtServer}
+use Rattle.kr_order.specs.declared.message.Packet.{Packet}
+use Rattle.kr_protocol.specs.Client.{Client, new_client}
+use Rattle.script_lang.specs.declared.script.Event.{Event}
+use Rattle.script_lang.specs.declared.script.Event.TheVariants.{Call, Deliver}
+use Rattle.script_lang.specs.Event.{IsEvent}
+use Rattle.kr_world.specs.declared.refusal.Refusal.{Refusal}
+use Rattle.kr_world.specs.World.{World, first_world, client_at, server_at, packet_at}
+use Rattle.kr_world.specs.Step.{call_refusal, client_calls, arrives, delivers, act, refusal_of, unless, step}
+use Rattle.kr_world.specs.Run.{Turn, run_from, run_of}
+use Rattle.kr_world.specs.Sound.{IsSound}
+use Rattle.kr_world.specs.Lawful.{IsFrontOf, IsNumbered, HasOnePlace, HasTrueReplies, IsLawful, RunsAreLawful, begun_by, entries_of, history_after}
+use Rattle.kr_world.specs.Facts.{IsTrueMessage, IsTruePacket, IsTrueClient, IsInStep, AreFacts}
+use Rattle.kr_world.proofs.StepLemmas.{at_index, idle_client}
+use Rattle.kr_world.proofs.SoundLemmas.{worlds_sound}
+use Rattle.kr_world.proofs.ListFacts.{take_with}
+use Rattle.kr_world.proofs.PastLemmas.{front_itself, front_of_front}
+use Rattle.kr_world.proofs.KeepLemmas.{turn_of, Keeps, refused_keeps, quiet_keeps}
+use Rattle.kr_world.proofs.CallLemmas.{call_keeps}
+use Rattle.kr_world.proofs.HearLemmas.{client_keeps}
+use Rattle.kr_world.proofs.ServerLemmas.{server_keeps}
+
+calls_keep : (past : List Turn) (world : World) (caller : ClientId) (command : Command) (found : Option Client) → 1 ≤ caller.0 → client_at world caller ≡ found → call_refusal world found ≡ None → AreFacts past world → Keeps past (turn_of world (Call caller command) (client_calls world caller command found))
+calls_keep past world caller command None low is none facts = absurd (none-some _ (sym none))
+calls_keep past world caller command (Some client) low is none facts =
+    let free = idle_client world client none in
+    call_keeps past world caller command client low is free.idle facts
+
+arrives_keeps : (past : List Turn) (world : World) (k : ℕ) (to : nodes.Node) (packet : Packet) → packet.to ≡ to → IsSound world → IsTruePacket past world.history packet → AreFacts past world → Keeps past (turn_of world (Deliver k) (arrives world to packet))
+arrives_keeps past world k Manager packet to sound said facts = quiet_keeps past world k facts
+arrives_keeps past world k (AtClient client) packet to sound said facts =
+    client_keeps past world k client packet (client_at world client) refl (subst (λ node. IsTrueMessage past world.history packet.from node packet.message) to said) facts
+arrives_keeps past world k (AtServer server) packet to sound said facts = server_keeps past world k server packet (server_at world server) refl sound said facts
+
+delivers_keeps : (past : List Turn) (world : World) (k : ℕ) (found : Option Packet) → packet_at world k ≡ found → IsSound world → AreFacts past world → Keeps past (turn_of world (Deliver k) (delivers world found))
+delivers_keeps past world k None is sound facts = quiet_keeps past world k facts
+delivers_keeps past world k (Some packet) is sound facts =
+    arrives_keeps past world k packet.to packet refl sound (at_index (IsTruePacket past world.history) world.bag (k - 1) packet facts.packets is) facts
+
+act_keeps : (past : List Turn) (world : World) (event : Event) → refusal_of world event ≡ None → IsEvent event → IsSound world → AreFacts past world → Keeps past (turn_of world event (act world event))
+act_keeps past world (Call client command) none fit sound facts = calls_keep past world client command (client_at world client) fit.low refl none facts
+act_keeps past world (Deliver k) none fit sound facts = delivers_keeps past world k (packet_at world k) refl sound facts
+
+step_cases : (past : List Turn) (world : World) (event : Event) (refusal : Option Refusal) → refusal_of world event ≡ refusal → IsEvent event → IsSound world → AreFacts past world → Keeps past (turn_of world event (unless world refusal (act world event)))
+step_cases past world event None is fit sound facts = act_keeps past world event is fit sound facts
+step_cases past world event (Some why) is fit sound facts = refused_keeps past world event why facts
+
+-- every step keeps the facts
+pub step_keeps : (past : List Turn) (world : World) (event : Event) → IsEvent event → IsSound world → AreFacts past world → Keeps past (turn_of world event (step world event))
+step_keeps past world event fit sound facts = step_cases past world event (refusal_of world event) refl fit sound facts
+
+-- each step of a run, after those before it
+pub run_keeps : (past : List Turn) (world : World) (events : List Event) → All IsEvent events → IsSound world → AreFacts past world → (i : ℕ) (turn : Turn) → slice_get (run_from world events) i ≡ Some turn → Keeps (past ++ take i (run_from world events)) turn
+run_keeps past world [] fit sound facts i turn is = absurd (none-some turn is)
+run_keeps past world (event ∷ events) fit sound facts zero turn is =
+    let first = turn_of world event (step world event) in
+    let kept = step_keeps past world event (All-head IsEvent event events fit) sound facts in
+    subst (λ p. Keeps p turn) (sym (append-nil past)) (subst (λ t. Keeps past t) (same_Some first turn is) kept)
+run_keeps past world (event ∷ events) fit sound facts (suc i) turn is =
+    let first = turn_of world event (step world event) in
+    let kept = step_keeps past world event (All-head IsEvent event events fit) sound facts in
+    let after = (step world event).after in
+    let later = run_keeps (past ++ first ∷ []) after events (All-tail IsEvent event events fit) (worlds_sound.later world event sound) kept.facts i turn is in
+    subst (λ p. Keeps p turn) (append_assoc past (first ∷ []) (take i (run_from after events))) later
+
+-- histories grow from the first world of a run
+grows_from : (past : List Turn) (world : World) (events : List Event) → All IsEvent events → IsSound world → AreFacts past world → (j : ℕ) (later : Turn) → slice_get (run_from world events) j ≡ Some later → IsFrontOf world.history (history_after later)
+grows_from past world [] fit sound facts j later is = absurd (none-some later is)
+grows_from past world (event ∷ events) fit sound facts zero later is =
+    let first = turn_of world event (step world event) in
+    let kept = step_keeps past world event (All-head IsEvent event events fit) sound facts in
+    subst (λ t. IsFrontOf world.history (history_after t)) (same_Some first later is) kept.grows
+grows_from past world (event ∷ events) fit sound facts (suc j) later is =
+    let first = turn_of world event (step world event) in
+    let kept = step_keeps past world event (All-head IsEvent event events fit) sound facts in
+    let after = (step world event).after in
+    front_of_front world.history after.history (history_after later) kept.grows (grows_from (past ++ first ∷ []) after events (All-tail IsEvent event events fit) (worlds_sound.later world event sound) kept.facts j later is)
+
+-- and from each step on
+run_grows : (past : List Turn) (world : World) (events : List Event) → All IsEvent events → IsSound world → AreFacts past world → (i j : ℕ) (earlier later : Turn) → i ≤ j → slice_get (run_from world events) i ≡ Some earlier → slice_get (run_from world events) j ≡ Some later → IsFrontOf (history_after earlier) (history_after later)
+run_grows past world [] fit sound facts i j earlier later le is is' = absurd (none-some earlier is)
+run_grows past world (event ∷ events) fit sound facts zero zero earlier later le is is' =
+    let same : earlier ≡ later = same_Some earlier later (sym is ∙ is') in
+    subst (λ t. IsFrontOf (history_after earlier) (history_after t)) same (front_itself (history_after earlier))
+run_grows past world (event ∷ events) fit sound facts zero (suc j) earlier later le is is' =
+    let first = turn_of world event (step world event) in
+    let kept = step_keeps past world event (All-head IsEvent event events fit) sound facts in
+    subst (λ t. IsFrontOf (history_after t) (history_after later)) (same_Some first earlier is) (grows_from (past ++ first ∷ []) (step world event).after events (All-tail IsEvent event events fit) (worlds_sound.later world event sound) kept.facts j later is')
+run_grows past world (event ∷ events) fit sound facts (suc i) zero earlier later le is is' = absurd (omega arith)
+run_grows past world (event ∷ events) fit sound facts (suc i) (suc j) earlier later le is is' =
+    let first = turn_of world event (step world event) in
+    let kept = step_keeps past world event (All-head IsEvent event events fit) sound facts in
+    run_grows (past ++ first ∷ []) (step world event).after events (All-tail IsEvent event events fit) (worlds_sound.later world event sound) kept.facts i j earlier later (omega arith) is is'
+
+-- before the first step
+first_client : (i : ℕ) (client : Client) → slice_get first_world.clients i ≡ Some client → IsTrueClient [] [] i client
+first_client zero client is =
+    subst (λ c. IsTrueClient [] [] 0 c) (same_Some (new_client (record { 0 = 1 })) client is) (record { id = refl; seq = refl; idle = λ none. refl; seen = refl; within = omega arith; old = omega arith })
+first_client (suc i) client is = absurd (none-some client is)
+
+first_facts : AreFacts [] first_world
+first_facts =
+    record {
+      packets = All-nil (IsTruePacket [] []);
+      in_step = record { numbered = λ caller k entry is. absurd (none-some entry is); one_open = λ caller. omega arith };
+      clients = first_client;
+    }
+
+pub runs_lawful : RunsAreLawful
+runs_lawful script fit =
+    let run = run_of script in
+    let keeps = run_keeps [] first_world script.events fit.each worlds_sound.first first_facts in
+    record {
+      one_place = record {
+        grows = run_grows [] first_world script.events fit.each worlds_sound.first first_facts;
+        numbered = λ i turn is caller. subst (λ p. IsNumbered (begun_by caller p) (entries_of caller (history_after turn))) (sym (take_with run i turn is)) ((keeps i turn is).facts.in_step.numbered caller);
+      };
+      told_reply = λ i turn is. (keeps i turn is).told;
+    }
