@@ -1,5 +1,6 @@
 //! Laws of runs. Each function does nothing: its contract is the law, whose proof is checked with it.
 
+ghost use Rattle.kr_world.specs.Lawful.{RunsAreLawful};
 ghost use Rattle.kr_world.specs.Sound.{WorldsAreSound};
 
 pub mod rows;
@@ -7,4 +8,9 @@ pub mod rows;
 /// Every world of a run is sound.
 pub fn worlds_are_sound()
     ensures { WorldsAreSound }
+{}
+
+/// Every run of a script is lawful: each command has one place, and each told reply is true and new.
+pub fn runs_are_lawful()
+    ensures { RunsAreLawful }
 {}
