@@ -1,22 +1,19 @@
 -- A client's call keeps the facts.
-use Rattle.std.proofs.Common.{◌≡◌, ◌≢◌, ℕ, ◌+◌, ◌-◌, ◌<◌, ◌≤◌, Bool, true, false, eqb, List, [], ◌∷◌, ◌++◌, length, take, refl, sym, ap, ◌∙◌, subst, arith, inl, inr}
-use Rattle.std.specs.Prelude.{Option, None, Some, slice_get, All}
+use Rattle.std.proofs.Common.{◌≡◌, ◌≢◌, ℕ, ◌+◌, ◌-◌, ◌≤◌, eqb, List, [], ◌∷◌, ◌++◌, length, refl, sym, ap, ◌∙◌, subst, arith, inl, inr}
+use Rattle.std.specs.Prelude.{None, Some, slice_get}
 use Rattle.std.proofs.lemmas.Bool.{cases_eq, cond-true, cond-false, eq-eqb, ne_eqb}
-use Rattle.std.proofs.lemmas.List.{append-nil, length-append, length_push}
+use Rattle.std.proofs.lemmas.List.{length_push}
 use Rattle.std.proofs.lemmas.List.Elements.{All-nil, All-cons, All-append}
 use Rattle.std.proofs.lemmas.Option.{none-some}
 use Rattle.kr_order.specs.declared.ids.ClientId.{ClientId}
 use Rattle.kr_order.specs.declared.history.Command.{Command}
-use Rattle.kr_order.specs.declared.history.Entry.{Entry}
-use Rattle.kr_order.specs.declared.message.Packet.{Packet}
 use Rattle.kr_protocol.specs.Client.{Client, begins}
-use Rattle.script_lang.specs.declared.script.Event.{Event}
 use Rattle.script_lang.specs.declared.script.Event.TheVariants.{Call}
 use Rattle.kr_world.specs.World.{World, client_at}
 use Rattle.kr_world.specs.Step.{Outcome, client_sends}
 use Rattle.kr_world.specs.Run.{Turn}
 use Rattle.kr_world.specs.Lawful.{IsToldTruly, begins_by, begun_by, entries_of, seen_by}
-use Rattle.kr_world.specs.Facts.{HasBegun, IsTruePacket, IsTrueClient, IsInStep, AreFacts}
+use Rattle.kr_world.specs.Facts.{HasBegun, IsTruePacket, IsTrueClient, AreFacts}
 use Rattle.kr_world.proofs.ListFacts.{slice_get_at, each_after_set}
 use Rattle.kr_world.proofs.PastLemmas.{begun_by-push, front_itself}
 use Rattle.kr_world.proofs.PacketLemmas.{same_client, packets_later}
@@ -72,13 +69,13 @@ call_keeps past world caller command client low is idle facts =
         in_step = record {
           numbered = λ other. numbered_later other past turn (entries_of other history) (facts.in_step.numbered other);
           one_open = λ other. elim (cases_eq caller.0 other.0) [
-            inl own ↦
+            | inl own ↦
                 let its : client.id ≡ other = same_client client.id other (omega arith) in
                 subst (λ c. length (begun_by c later) ≤ length (entries_of c history) + 1) its (omega (arith, ap length begun, length_push (begun_by client.id past) command))
             | inr different ↦
                 let open_before = facts.in_step.one_open other in
                 omega (arith, ap length (begun_same other past turn (others_begin caller other command different)))
-            ];
+          ];
         };
         clients = each_after_set (IsTrueClient later history) world.clients (caller.0 - 1) (begins client command).after (caller_later past world caller command (caller.0 - 1) client same known) (λ j other different found.
             let its = facts.clients j other found in

@@ -1,8 +1,8 @@
 -- Each client's entries in a history: their numbers, and the last of them.
-use Rattle.std.proofs.Common.{◌≡◌, ◌≢◌, ℕ, ◌+◌, ◌-◌, ◌<◌, ◌≤◌, Bool, true, false, cond, eqb, List, [], ◌∷◌, ◌++◌, length, take, drop, get_or, refl, sym, ap, ◌∙◌, subst, arith, inl, inr}
+use Rattle.std.proofs.Common.{◌≡◌, ◌≢◌, ◌+◌, ◌<◌, ◌≤◌, Bool, true, false, cond, eqb, List, [], ◌∷◌, ◌++◌, length, get_or, refl, sym, ap, ◌∙◌, subst, arith, inl, inr}
 use Rattle.std.specs.Prelude.{Option, None, Some, slice_get}
 use Rattle.std.proofs.lemmas.Bool.{cases_eq, cond-true, cond-false, eq-eqb, ne_eqb, eqb-true, eqb-false}
-use Rattle.std.proofs.lemmas.List.{append-nil, append_assoc, length-append, length_push}
+use Rattle.std.proofs.lemmas.List.{append-nil, append_assoc, length_push}
 use Rattle.std.proofs.lemmas.List.Elements.{filter-append}
 use Rattle.std.proofs.lemmas.Option.{same_Some, slice_get_within, slice_get-get_or}
 use Rattle.kr_order.specs.declared.ids.ClientId.{ClientId}
@@ -57,13 +57,13 @@ numbered_more begun more entries numbered k entry is =
 pub numbered_push : (begun : List Command) (entries : List Entry) (entry : Entry) → IsNumbered begun entries → IsInOrder begun entries entry → IsNumbered begun (entries ++ entry ∷ [])
 numbered_push begun entries entry numbered next k found is =
     elim (cases_eq k (length entries)) [
-    inl last ↦
-        let same : entry ≡ found = same_Some entry found (sym (slice_get_at entries entry [] k (sym last)) ∙ is) in
-        subst (λ e. (e.seq ≡ k + 1) × (slice_get begun k ≡ Some e.command)) same (subst (λ n. (entry.seq ≡ n + 1) × (slice_get begun n ≡ Some entry.command)) (sym last) (next.seq, next.command))
-    | inr before ↦
-        let within = slice_get_within (entries ++ entry ∷ []) k found is in
-        let lt : k < length entries = omega (arith, length_push entries entry) in
-        numbered k found (slice_get_front entries (entry ∷ []) k found lt is)
+      | inl last ↦
+          let same : entry ≡ found = same_Some entry found (sym (slice_get_at entries entry [] k (sym last)) ∙ is) in
+          subst (λ e. (e.seq ≡ k + 1) × (slice_get begun k ≡ Some e.command)) same (subst (λ n. (entry.seq ≡ n + 1) × (slice_get begun n ≡ Some entry.command)) (sym last) (next.seq, next.command))
+      | inr before ↦
+          let within = slice_get_within (entries ++ entry ∷ []) k found is in
+          let lt : k < length entries = omega (arith, length_push entries entry) in
+          numbered k found (slice_get_front entries (entry ∷ []) k found lt is)
     ]
 
 -- the client's last entry, with the history before it and after it

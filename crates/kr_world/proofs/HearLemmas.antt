@@ -1,6 +1,6 @@
 -- What a client does with a packet keeps the facts, and what it is told is true and new.
 use Rattle.std.proofs.Common.{◌≡◌, ◌≢◌, ℕ, ◌+◌, ◌-◌, ◌<◌, ◌≤◌, Bool, true, false, cond, eqb, List, [], ◌∷◌, ◌++◌, length, take, drop, refl, sym, ap, ◌∙◌, subst, arith, inl, inr}
-use Rattle.std.specs.Prelude.{max, Option, None, Some, slice_get, All}
+use Rattle.std.specs.Prelude.{max, Option, None, Some}
 use Rattle.std.proofs.lemmas.Bool.{cases_lt, cond-true, cond-false, eq-eqb, ne_eqb, eqb-true}
 use Rattle.std.proofs.lemmas.List.{length-append, length_push, take-append-drop, take-take}
 use Rattle.std.proofs.lemmas.List.Elements.{All-nil, All-cons}
@@ -17,10 +17,10 @@ use Rattle.kr_order.specs.declared.message.Packet.{Packet}
 use Rattle.kr_protocol.specs.Client.{Client, unheard, closes, after_reply, message_to}
 use Rattle.script_lang.specs.declared.script.Event.TheVariants.{Deliver}
 use Rattle.kr_world.specs.World.{World, client_at}
-use Rattle.kr_world.specs.Step.{Told, client_hears, arrives_at_client}
+use Rattle.kr_world.specs.Step.{client_hears, arrives_at_client}
 use Rattle.kr_world.specs.Run.{Turn}
 use Rattle.kr_world.specs.Lawful.{IsNumbered, IsToldTruly, begun_by, entries_of, greatest_place, seen_by}
-use Rattle.kr_world.specs.Facts.{StandsAt, IsTrueReply, IsTrueMessage, IsTruePacket, IsTrueClient, IsInStep, AreFacts, open_calls}
+use Rattle.kr_world.specs.Facts.{StandsAt, IsTrueMessage, IsTrueClient, AreFacts, open_calls}
 use Rattle.kr_world.proofs.ListFacts.{split_at, take_with, each_after_set}
 use Rattle.kr_world.proofs.PastLemmas.{seen_by-push, front_itself}
 use Rattle.kr_world.proofs.EntryLemmas.{entries_of-append, entries_of-own, numbered_at, numbered_count}
@@ -88,7 +88,6 @@ unheard_keeps past world k id client is facts =
       told = All-nil (λ told. IsToldTruly history (seen_by told.client past) told);
     }
 
-
 -- the client is told the reply of its open call, which closes it
 closes_keeps : (past : List Turn) (world : World) (k : ℕ) (id : ClientId) (client : Client) (command : Command) (placed : Placed) → client_at world id ≡ Some client → client.call ≡ Some command → StandsAt world.history id client.seq placed → AreFacts past world → Keeps past (turn_of world (Deliver k) (client_hears world id (closes client placed)))
 closes_keeps past world k id client command placed is called stands facts =
@@ -121,15 +120,15 @@ closes_keeps past world k id client command placed is called stands facts =
           one_open = λ caller. let open_before = facts.in_step.one_open caller in omega (arith, ap length (begun_same caller past turn refl));
         };
         clients = each_after_set (IsTrueClient later history) world.clients (id.0 - 1) (closes client placed).after
-          (record {
-            id = known.id;
-            seq = omega arith;
-            idle = λ none. news.all;
-            seen = omega (arith, seen_by-push client.id past turn);
-            within = omega arith;
-            old = subst (λ n. length (entries_of client.id (take n history)) + 0 ≤ client.seq) last (omega arith);
-          })
-          (λ j other different found.
+            (record {
+              id = known.id;
+              seq = omega arith;
+              idle = λ none. news.all;
+              seen = omega (arith, seen_by-push client.id past turn);
+              within = omega arith;
+              old = subst (λ n. length (entries_of client.id (take n history)) + 0 ≤ client.seq) last (omega arith);
+            })
+            (λ j other different found.
             let others = facts.clients j other found in
             let others_id = others.id in
             let apart : id.0 ≢ other.id.0 = omega arith in

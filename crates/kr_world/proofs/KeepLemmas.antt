@@ -1,21 +1,19 @@
 -- What a step keeps, and what it keeps of the clients that it leaves alone.
-use Rattle.std.proofs.Common.{◌≡◌, ℕ, ◌+◌, ◌-◌, ◌<◌, ◌≤◌, List, [], ◌∷◌, ◌++◌, length, take, refl, sym, ap, ◌∙◌, subst, arith}
-use Rattle.std.specs.Prelude.{max, Option, None, Some, slice_get, All}
+use Rattle.std.proofs.Common.{◌≡◌, ℕ, ◌+◌, ◌≤◌, List, [], ◌∷◌, ◌++◌, length, take, refl, sym, ap, ◌∙◌, subst, arith}
+use Rattle.std.specs.Prelude.{All}
 use Rattle.std.proofs.lemmas.List.{append-nil, length-append, take-append-le}
 use Rattle.std.proofs.lemmas.List.Elements.{All-nil}
 use Rattle.kr_order.specs.declared.ids.ClientId.{ClientId}
-use Rattle.kr_order.specs.declared.history.Command.{Command}
 use Rattle.kr_order.specs.declared.history.Entry.{Entry}
-use Rattle.kr_order.specs.declared.message.Packet.{Packet}
 use Rattle.kr_protocol.specs.Client.{Client}
 use Rattle.script_lang.specs.declared.script.Event.{Event}
 use Rattle.script_lang.specs.declared.script.Event.TheVariants.{Deliver}
 use Rattle.kr_world.specs.declared.refusal.Refusal.{Refusal}
 use Rattle.kr_world.specs.World.{World}
-use Rattle.kr_world.specs.Step.{Told, Outcome, quiet, refuses}
+use Rattle.kr_world.specs.Step.{Outcome, quiet, refuses}
 use Rattle.kr_world.specs.Run.{Turn}
 use Rattle.kr_world.specs.Lawful.{IsFrontOf, IsNumbered, IsToldTruly, begins_by, begun_by, entries_of, greatest_place, history_after, seen_by}
-use Rattle.kr_world.specs.Facts.{IsTruePacket, IsTrueClient, IsInStep, AreFacts, open_calls}
+use Rattle.kr_world.specs.Facts.{IsTrueClient, AreFacts, open_calls}
 use Rattle.kr_world.proofs.PastLemmas.{begun_by-push, seen_by-push, refused_begins, front_itself}
 use Rattle.kr_world.proofs.EntryLemmas.{entries_of-append, numbered_count, numbered_more}
 use Rattle.kr_world.proofs.PacketLemmas.{packets_later}

@@ -1,12 +1,11 @@
 -- Every step keeps the facts, so every run is lawful.
-use Rattle.std.proofs.Common.{zero, suc, ◌≡◌, ℕ, ◌+◌, ◌-◌, ◌<◌, ◌≤◌, List, [], ◌∷◌, ◌++◌, length, take, refl, sym, ap, ◌∙◌, subst, arith}
+use Rattle.std.proofs.Common.{zero, suc, ◌≡◌, ℕ, ◌-◌, ◌≤◌, List, [], ◌∷◌, ◌++◌, take, refl, sym, ◌∙◌, subst, arith}
 use Rattle.std.specs.Prelude.{Option, None, Some, slice_get, All}
 use Rattle.std.proofs.lemmas.List.{append-nil, append_assoc}
-use Rattle.std.proofs.lemmas.List.Elements.{All-nil, All-cons, All-head, All-tail}
+use Rattle.std.proofs.lemmas.List.Elements.{All-nil, All-head, All-tail}
 use Rattle.std.proofs.lemmas.Option.{none-some, same_Some}
 use Rattle.kr_order.specs.declared.ids.ClientId.{ClientId}
 use Rattle.kr_order.specs.declared.history.Command.{Command}
-use Rattle.kr_order.specs.declared.history.Entry.{Entry}
 use Rattle.kr_order.specs.declared.message.Node as nodes
 use Rattle.kr_order.specs.declared.message.Node.TheVariants.{Manager, Client as AtClient, Server as AtServer}
 use Rattle.kr_order.specs.declared.message.Packet.{Packet}
@@ -19,8 +18,8 @@ use Rattle.kr_world.specs.World.{World, first_world, client_at, server_at, packe
 use Rattle.kr_world.specs.Step.{call_refusal, client_calls, arrives, delivers, act, refusal_of, unless, step}
 use Rattle.kr_world.specs.Run.{Turn, run_from, run_of}
 use Rattle.kr_world.specs.Sound.{IsSound}
-use Rattle.kr_world.specs.Lawful.{IsFrontOf, IsNumbered, HasOnePlace, HasTrueReplies, IsLawful, RunsAreLawful, begun_by, entries_of, history_after}
-use Rattle.kr_world.specs.Facts.{IsTrueMessage, IsTruePacket, IsTrueClient, IsInStep, AreFacts}
+use Rattle.kr_world.specs.Lawful.{IsFrontOf, IsNumbered, RunsAreLawful, begun_by, entries_of, history_after}
+use Rattle.kr_world.specs.Facts.{IsTrueMessage, IsTruePacket, IsTrueClient, AreFacts}
 use Rattle.kr_world.proofs.StepLemmas.{at_index, idle_client}
 use Rattle.kr_world.proofs.SoundLemmas.{worlds_sound}
 use Rattle.kr_world.proofs.ListFacts.{take_with}

@@ -1,9 +1,9 @@
 -- Elements of lists that grow at the end, or of which one is written.
-use Rattle.std.proofs.Common.{◌≡◌, ◌≢◌, ℕ, ◌+◌, ◌-◌, ◌<◌, ◌≤◌, List, [], ◌∷◌, ◌++◌, length, take, drop, set, get_or, refl, sym, ap, ◌∙◌, subst, arith, inl, inr}
-use Rattle.std.specs.Prelude.{Option, None, Some, slice_get}
+use Rattle.std.proofs.Common.{◌≡◌, ◌≢◌, ℕ, ◌+◌, ◌<◌, List, [], ◌∷◌, ◌++◌, length, take, drop, set, get_or, sym, ap, ◌∙◌, subst, arith, inl, inr}
+use Rattle.std.specs.Prelude.{Some, slice_get}
 use Rattle.std.proofs.lemmas.Bool.{cases_eq}
 use Rattle.std.proofs.lemmas.List.{length-append, length-set, get_or_append_left, get_or_at, get_or-set_same, get_or-set_other, take_more, drop_more, take-append-drop}
-use Rattle.std.proofs.lemmas.Option.{same_Some, slice_get_within, slice_get-get_or, slice_get_past, get_or_from_slice_get}
+use Rattle.std.proofs.lemmas.Option.{slice_get_within, slice_get-get_or, get_or_from_slice_get}
 
 pub slice_get_left : {X : Type 0} (xs ys : List X) (k : ℕ) (x : X) → slice_get xs k ≡ Some x → slice_get (xs ++ ys) k ≡ Some x
 slice_get_left xs ys k x is =
@@ -33,13 +33,13 @@ take_with xs i x is =
 pub each_after_set : {X : Type 0} (P : ℕ → X → Type 0) (xs : List X) (i : ℕ) (a : X) → P i a → ((j : ℕ) (x : X) → j ≢ i → slice_get xs j ≡ Some x → P j x) → (j : ℕ) (x : X) → slice_get (set xs i a) j ≡ Some x → P j x
 each_after_set P xs i a here others j x is =
     elim (cases_eq j i) [
-    inl same ↦
-        let lt : j < length xs = subst (λ n. j < n) (length-set xs i a) (slice_get_within (set xs i a) j x is) in
-        let lt_i : i < length xs = omega arith in
-        let written : a ≡ x = sym (get_or-set_same xs i a x lt_i) ∙ get_or_from_slice_get (set xs i a) i x x (subst (λ k. slice_get (set xs i a) k ≡ Some x) same is) in
-        subst (λ k. P k x) (sym same) (subst (λ y. P i y) written here)
-    | inr other ↦
-        let lt : j < length xs = subst (λ n. j < n) (length-set xs i a) (slice_get_within (set xs i a) j x is) in
-        let kept : get_or xs j x ≡ x = sym (get_or-set_other xs i j a x other) ∙ get_or_from_slice_get (set xs i a) j x x is in
-        others j x other (slice_get-get_or xs j x lt ∙ ap (λ y. Some y) kept)
+      | inl same ↦
+          let lt : j < length xs = subst (λ n. j < n) (length-set xs i a) (slice_get_within (set xs i a) j x is) in
+          let lt_i : i < length xs = omega arith in
+          let written : a ≡ x = sym (get_or-set_same xs i a x lt_i) ∙ get_or_from_slice_get (set xs i a) i x x (subst (λ k. slice_get (set xs i a) k ≡ Some x) same is) in
+          subst (λ k. P k x) (sym same) (subst (λ y. P i y) written here)
+      | inr other ↦
+          let lt : j < length xs = subst (λ n. j < n) (length-set xs i a) (slice_get_within (set xs i a) j x is) in
+          let kept : get_or xs j x ≡ x = sym (get_or-set_other xs i j a x other) ∙ get_or_from_slice_get (set xs i a) j x x is in
+          others j x other (slice_get-get_or xs j x lt ∙ ap (λ y. Some y) kept)
     ]

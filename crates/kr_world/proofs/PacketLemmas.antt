@@ -1,6 +1,6 @@
 -- Packets stay true, and the replies of entries are true.
-use Rattle.std.proofs.Common.{◌≡◌, ℕ, ◌+◌, ◌-◌, ◌<◌, ◌≤◌, List, [], ◌∷◌, ◌++◌, length, take, refl, sym, ap, ◌∙◌, subst, arith}
-use Rattle.std.specs.Prelude.{Some, slice_get, All}
+use Rattle.std.proofs.Common.{◌≡◌, ℕ, ◌+◌, ◌-◌, ◌<◌, ◌≤◌, List, ◌∷◌, ◌++◌, length, take, refl, sym, ap, ◌∙◌, subst, arith}
+use Rattle.std.specs.Prelude.{slice_get, All}
 use Rattle.std.proofs.lemmas.List.{take-append-le, take_at}
 use Rattle.std.proofs.lemmas.List.Elements.{All-weaker}
 use Rattle.std.proofs.lemmas.Option.{slice_get_within}
@@ -16,7 +16,6 @@ use Rattle.kr_order.specs.declared.message.Message.TheVariants.{Request, Replied
 use Rattle.kr_order.specs.declared.message.Packet.{Packet}
 use Rattle.kr_order.specs.Reply.{reply_to}
 use Rattle.kr_world.specs.Run.{Turn}
-use Rattle.kr_world.specs.Step.{Told}
 use Rattle.kr_world.specs.Lawful.{IsFrontOf, IsToldTruly, begun_by}
 use Rattle.kr_world.specs.Facts.{HasBegun, StandsAt, IsTrueRequest, IsTrueReply, IsTrueMessage, IsTruePacket}
 use Rattle.kr_world.proofs.ListFacts.{slice_get_left, slice_get_at}

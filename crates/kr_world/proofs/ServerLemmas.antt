@@ -1,5 +1,5 @@
 -- What a server does with a packet keeps the facts.
-use Rattle.std.proofs.Common.{◌≡◌, ◌≢◌, ℕ, ◌+◌, ◌-◌, ◌<◌, ◌≤◌, Bool, true, false, cond, eqb, ltb, List, [], ◌∷◌, ◌++◌, length, refl, sym, ap, ◌∙◌, subst, arith, inl, inr}
+use Rattle.std.proofs.Common.{◌≡◌, ℕ, ◌-◌, ◌<◌, Bool, true, false, cond, eqb, ltb, List, [], ◌∷◌, ◌++◌, length, refl, sym, ap, ◌∙◌, subst, arith, inl, inr}
 use Rattle.std.specs.Prelude.{Option, None, Some, slice_get, slice_set, All}
 use Rattle.std.proofs.lemmas.Bool.{cases_eq, ltb-true}
 use Rattle.std.proofs.lemmas.List.{append-nil, length-append}
@@ -15,17 +15,16 @@ use Rattle.kr_order.specs.declared.message.Node.TheVariants.{Manager, Client as 
 use Rattle.kr_order.specs.declared.message.Message.{Message}
 use Rattle.kr_order.specs.declared.message.Message.TheVariants.{Request, Replied}
 use Rattle.kr_order.specs.declared.message.Packet.{Packet}
-use Rattle.kr_order.specs.Done.{done_after, done_of, last_of}
+use Rattle.kr_order.specs.Done.{done_of, last_of}
 use Rattle.kr_protocol.specs.Reaction.{Reaction, ignored}
 use Rattle.kr_protocol.specs.Server.{Server, reply_packet, enters, requested, request_from, message_from, server_takes}
-use Rattle.kr_protocol.specs.Client as clients
 use Rattle.script_lang.specs.declared.script.Event.TheVariants.{Deliver}
 use Rattle.kr_world.specs.World.{World, server_at, longest}
 use Rattle.kr_world.specs.Step.{server_reacts, arrives_at_server}
 use Rattle.kr_world.specs.Run.{Turn}
 use Rattle.kr_world.specs.Sound.{IsSound}
 use Rattle.kr_world.specs.Lawful.{IsFrontOf, IsNumbered, IsToldTruly, begun_by, entries_of, seen_by}
-use Rattle.kr_world.specs.Facts.{HasBegun, StandsAt, IsTrueRequest, IsTrueMessage, IsTruePacket, IsTrueClient, IsInStep, AreFacts}
+use Rattle.kr_world.specs.Facts.{HasBegun, IsTrueRequest, IsTrueMessage, IsTruePacket, IsInStep, AreFacts}
 use Rattle.kr_world.proofs.StepLemmas.{at_index}
 use Rattle.kr_world.proofs.SoundLemmas.{any_reacts}
 use Rattle.kr_world.proofs.PastLemmas.{front_itself}
@@ -73,11 +72,11 @@ enters_fair past server entry counted known more =
       more = entry ∷ [];
       log = refl;
       numbered = λ caller. elim (cases_eq entry.client.0 caller.0) [
-        inl own ↦
+        | inl own ↦
             let pushed = numbered_push (begun_by entry.client past) (entries_of entry.client log) entry (counted.numbered entry.client) (next_in_order past log entry counted known more) in
             subst (λ c. IsNumbered (begun_by c past) (entries_of c after)) (same_client entry.client caller own) (subst (λ es. IsNumbered (begun_by entry.client past) es) (sym (entries_of-own entry.client log entry [] refl)) pushed)
         | inr other ↦ subst (λ es. IsNumbered (begun_by caller past) es) (sym (entries_of-other caller log entry other)) (counted.numbered caller)
-        ];
+      ];
       sent = All-cons (IsTruePacket past after) _ [] (entry_stands log entry [] known.caller_low) (All-nil (IsTruePacket past after));
     }
 
@@ -125,8 +124,8 @@ reacts_keeps past world k id server reaction is sound fair facts =
         in_step = record {
           numbered = λ caller. numbered_later caller past turn (entries_of caller now) (numbered caller);
           one_open = λ caller.
-            let open_before = facts.in_step.one_open caller in
-            omega (arith, ap length (begun_same caller past turn refl), ap (λ h. length (entries_of caller h)) front.is, ap length (entries_of-append caller world.history fair.more), length-append (entries_of caller world.history) (entries_of caller fair.more));
+              let open_before = facts.in_step.one_open caller in
+              omega (arith, ap length (begun_same caller past turn refl), ap (λ h. length (entries_of caller h)) front.is, ap length (entries_of-append caller world.history fair.more), length-append (entries_of caller world.history) (entries_of caller fair.more));
         };
         clients = λ i client found. client_later past turn world.history now i client refl refl front (numbered client.id) (facts.clients i client found);
       };
