@@ -1,8 +1,8 @@
 -- Every step keeps the world sound.
-use Rattle.std.proofs.Common.{zero, suc, ◌≡◌, ℕ, ◌+◌, ◌-◌, ◌<◌, ◌≤◌, Bool, true, false, cond, eqb, leb, ltb, List, [], ◌∷◌, ◌++◌, length, refl, sym, ap, ◌∙◌, subst, arith, rules}
-use Rattle.std.specs.Prelude.{Option, None, Some, is_some, slice_get, slice_set, All}
-use Rattle.std.proofs.lemmas.Bool.{ltb-false, ltb-true, lt-ltb}
-use Rattle.std.proofs.lemmas.List.{length-append, append-nil, length-set}
+use Rattle.std.proofs.Common.{zero, suc, ◌≡◌, ℕ, ◌+◌, ◌-◌, ◌<◌, ◌≤◌, Bool, true, false, cond, eqb, ltb, List, [], ◌∷◌, ◌++◌, length, refl, sym, ap, ◌∙◌, subst, arith}
+use Rattle.std.specs.Prelude.{Option, None, Some, slice_get, slice_set, All}
+use Rattle.std.proofs.lemmas.Bool.{lt-ltb}
+use Rattle.std.proofs.lemmas.List.{length-append, append-nil}
 use Rattle.std.proofs.lemmas.List.Elements.{All-set, All-weaker, All-cons, All-nil, All-head}
 use Rattle.kr_order.specs.declared.ids.ClientId.{ClientId}
 use Rattle.kr_order.specs.declared.ids.ServerId.{ServerId}
@@ -18,15 +18,15 @@ use Rattle.kr_order.specs.declared.message.Packet.{Packet}
 use Rattle.kr_order.specs.Done.{done_of, last_of}
 use Rattle.std.proofs.lemmas.Option.{none-some, same_Some, slice_get_past}
 use Rattle.kr_protocol.specs.Reaction.{Reaction}
-use Rattle.kr_protocol.specs.Server.{Server, enters, requested, after_request, request_from, message_from, server_takes}
-use Rattle.kr_protocol.specs.Client.{Client, Hearing, begins, closes, after_reply, message_to, client_takes}
+use Rattle.kr_protocol.specs.Server.{Server, enters, requested, request_from, message_from, server_takes}
+use Rattle.kr_protocol.specs.Client.{Client, begins, after_reply, message_to, client_takes}
 use Rattle.script_lang.specs.declared.script.Event.{Event}
 use Rattle.script_lang.specs.declared.script.Event.TheVariants.{Call, Deliver}
 use Rattle.kr_world.specs.declared.refusal.Refusal.{Refusal}
 use Rattle.kr_world.specs.World.{World, first_world, client_at, server_at, packet_at, longer, longest}
-use Rattle.kr_world.specs.Step.{Outcome, bag_limit, call_refusal, deliver_refusal, refusal_of, client_calls, client_hears, server_reacts, arrives_at_client, arrives_at_server, arrives, delivers, act, unless, step}
+use Rattle.kr_world.specs.Step.{bag_limit, call_refusal, deliver_refusal, refusal_of, client_calls, arrives_at_client, arrives_at_server, arrives, delivers, act, unless}
 use Rattle.kr_world.specs.Sound.{IsSound, WorldsAreSound}
-use Rattle.kr_world.proofs.StepLemmas.{at_index, IsIdle, idle_client, room_to_deliver}
+use Rattle.kr_world.proofs.StepLemmas.{at_index, idle_client, room_to_deliver}
 
 -- a server's log grows by at most one entry, with which it sends a packet
 pub record GrowsByOne (server : Server) (reaction : Reaction Server) : Type 0 where

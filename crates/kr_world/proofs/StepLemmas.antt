@@ -1,12 +1,11 @@
 -- What is known of a step that is not refused.
-use Rattle.std.proofs.Common.{◌≡◌, ℕ, ◌+◌, ◌-◌, ◌<◌, ◌≤◌, Bool, true, false, cond, eqb, leb, ltb, List, [], ◌∷◌, ◌++◌, length, refl, sym, ap, ◌∙◌, subst, arith, rules}
+use Rattle.std.proofs.Common.{◌≡◌, ℕ, ◌<◌, Bool, true, false, List, length, refl, sym, subst}
 use Rattle.std.specs.Prelude.{Option, None, Some, is_some, slice_get, All}
 use Rattle.std.proofs.lemmas.Bool.{leb-false, false≢true}
 use Rattle.std.proofs.lemmas.Option.{none-some, slice_get_within, get_or_from_slice_get}
 use Rattle.std.proofs.lemmas.List.Elements.{All-get_or}
 use Rattle.kr_order.specs.declared.message.Packet.{Packet}
 use Rattle.kr_protocol.specs.Client.{Client}
-use Rattle.kr_world.specs.declared.refusal.Refusal.{Refusal}
 use Rattle.kr_world.specs.declared.refusal.Refusal.TheVariants.{Busy, BagFull}
 use Rattle.kr_world.specs.World.{World}
 use Rattle.kr_world.specs.Step.{bag_limit, is_full, call_refusal, deliver_refusal}

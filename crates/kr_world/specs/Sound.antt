@@ -1,5 +1,5 @@
 -- What holds of every world of a run, and its code relies on.
-use Rattle.std.specs.Prelude.{◌≡◌, ◌≤◌, List, length, All}
+use Rattle.std.specs.Prelude.{◌≡◌, ◌≤◌, length, All}
 use Rattle.script_lang.specs.declared.script.Event.{Event}
 use Rattle.kr_world.specs.World.{World, first_world}
 use Rattle.kr_world.specs.Step.{step, bag_limit}
