@@ -4,7 +4,9 @@ ghost use Rattle.std.specs.Prelude.{◌≡◌, ◌^◌, ◌<◌, ℕ, true, fals
 ghost use Rattle.kr_protocol.specs.Client.{new_client, after_reply};
 ghost use Rattle.client_session.specs.Calls.{Begins, Takes, Hears};
 
-use kr_order::{ClientId, Command, Copied, Message, NoMemory, Node, Packet, Placed, ServerId, ToldReply};
+use kr_order::{
+    ClientId, Command, Copied, Message, NoMemory, Node, Packet, Placed, ServerId, ToldReply,
+};
 use std::alloc::Global;
 use std::marker::Model;
 use thiserror::Error;

@@ -58,14 +58,14 @@ client_called parts clients bag client command old new packet noted whole there 
     let node_after : new.client ≡ (begins old.client command).after = ap (λ (s : ClientStanding). s.client) opens.after in
     subst (λ found. Makes (client_calls (world_of parts) client command found) (record parts { clients = clients; bag = bag }) noted) (sym (client_there parts client old there)) (record {
       after = (let nodes = clients_after parts clients (client.0 - 1) new (begins old.client command).after is node_after in
-      let bags : bag ≡ parts.bag ++ (begins old.client command).sent = sent ∙ ap (λ ps. parts.bag ++ ps) (sym opens.sent) in
-      let f : List Client → List Packet → World = λ cs ps. record (world_of parts) { clients = cs; bag = ps } in
-      ap (λ cs. f cs bag) nodes ∙ ap (λ ps. f (slice_set (world_of parts).clients (client.0 - 1) (begins old.client command).after) ps) bags);
+          let bags : bag ≡ parts.bag ++ (begins old.client command).sent = sent ∙ ap (λ ps. parts.bag ++ ps) (sym opens.sent) in
+          let f : List Client → List Packet → World = λ cs ps. record (world_of parts) { clients = cs; bag = ps } in
+          ap (λ cs. f cs bag) nodes ∙ ap (λ ps. f (slice_set (world_of parts).clients (client.0 - 1) (begins old.client command).after) ps) bags);
       told = ap (λ n. told_in n.told) quiet;
       refused = ap (λ n. n.refused) quiet;
       servers = whole.servers;
       clients = clients_whole parts.clients.items clients.items (client.0 - 1) new is (ap (λ (s : ClientStanding). s.failed) opens.after) whole.clients;
-      journal = whole.journal
+      journal = whole.journal;
     })
 
 -- a packet that a client heard: its node has changed
@@ -74,12 +74,12 @@ client_heard parts clients client old new packet heard noted whole there is acce
     let node_after : new.client ≡ (client_takes old.client packet).after = ap (λ (s : ClientStanding). s.client) accepts.heeds.after in
     subst (λ found. Makes (arrives_at_client (world_of parts) client packet found) (record parts { clients = clients }) noted) (sym (client_there parts client old there)) (record {
       after = (let nodes = clients_after parts clients (client.0 - 1) new (client_takes old.client packet).after is node_after in
-      let f : List Client → World = λ cs. record (world_of parts) { clients = cs } in ap f nodes);
+          let f : List Client → World = λ cs. record (world_of parts) { clients = cs } in ap f nodes);
       told = told ∙ ap (told_to client) accepts.heeds.told;
       refused = none;
       servers = whole.servers;
       clients = clients_whole parts.clients.items clients.items (client.0 - 1) new is (ap (λ (s : ClientStanding). s.failed) accepts.heeds.after) whole.clients;
-      journal = whole.journal
+      journal = whole.journal;
     })
 
 -- a journal is of the history whose done entries it has
@@ -122,12 +122,12 @@ server_reacted parts servers bag journal server old new packet effects noted who
     let log_now : reaction.after.log ≡ w.history ++ more = grows ∙ ap (λ h. h ++ more) applied in
     subst (λ found. Makes (arrives_at_server w server packet found) (record parts { servers = servers; bag = bag; journal = journal }) noted) (sym at) (record {
       after = (let f : List Server → List Packet → List Entry → World = λ ss ps h. record w { servers = ss; bag = ps; history = h } in
-      ap (λ ss. f ss bag (history_of journal)) nodes ∙ ap (λ ps. f (slice_set w.servers i reaction.after) ps (history_of journal)) bags ∙ ap (f (slice_set w.servers i reaction.after) (w.bag ++ reaction.sent)) (histories ∙ sym on.history_is));
+          ap (λ ss. f ss bag (history_of journal)) nodes ∙ ap (λ ps. f (slice_set w.servers i reaction.after) ps (history_of journal)) bags ∙ ap (f (slice_set w.servers i reaction.after) (w.bag ++ reaction.sent)) (histories ∙ sym on.history_is));
       told = ap (λ n. told_in n.told) quiet;
       refused = ap (λ n. n.refused) quiet;
       servers = servers_whole parts.servers.items servers.items i new is (ap (λ (s : ServerStanding). s.failed) heeds.after) whole.servers;
       clients = whole.clients;
-      journal = noted_down ∙ ap (λ ds. ds ++ effects.committed) (whole.journal ∙ ap done_of (sym applied)) ∙ sym heeds.committed ∙ ap done_of (log_now ∙ sym histories)
+      journal = noted_down ∙ ap (λ ds. ds ++ effects.committed) (whole.journal ∙ ap done_of (sym applied)) ∙ sym heeds.committed ∙ ap done_of (log_now ∙ sym histories);
     })
 
 -- a client whose call is not refused is there

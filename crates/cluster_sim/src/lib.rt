@@ -5,13 +5,10 @@
 //! answer `NoMemory` then does.
 #![tactic(auto)]
 
-
-
 mod cluster;
 mod lines;
 mod parts;
 mod step;
-
 
 pub use cluster::Cluster;
 pub use lines::Lines;

@@ -91,7 +91,13 @@ fn put_journal(out: &mut String, journal: &[DoneEntry]) -> Result<(), NoMemory>
 }
 
 /// The lines of a step, given the lengths of the history and of the bag before it.
-pub fn step_lines(alloc: Global, entries: usize, sent: usize, parts: &Parts, noted: &Noted) -> Result<Lines, NoMemory>
+pub fn step_lines(
+    alloc: Global,
+    entries: usize,
+    sent: usize,
+    parts: &Parts,
+    noted: &Noted,
+) -> Result<Lines, NoMemory>
     requires sent { sent ≤ length parts.now.bag }
     ensures { IfOk result (λ lines. lines ≡ lines_of entries sent parts.now noted.now) }
 {

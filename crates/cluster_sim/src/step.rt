@@ -64,7 +64,12 @@ pub fn refusal(parts: &Parts, event: &Event) -> Option<Refusal>
 }
 
 // The client begins the command, and its request is put into the bag.
-fn call(alloc: Global, parts: &mut Parts, client: ClientId, command: &Command) -> Result<Noted, NoMemory>
+fn call(
+    alloc: Global,
+    parts: &mut Parts,
+    client: ClientId,
+    command: &Command,
+) -> Result<Noted, NoMemory>
     requires whole { IsWhole parts.old }
     requires free { call_refusal (world_of parts.old) (client_at (world_of parts.old) client) ≡ None }
     ensures { IfOk result (Makes (client_calls (world_of parts.old) client command.now (client_at (world_of parts.old) client)) parts.new) }
@@ -102,7 +107,9 @@ fn arrive_at_client(parts: &mut Parts, client: ClientId, k: usize) -> Result<Not
     if i >= parts.clients.len() {
         return Ok(Noted::nothing());
     }
-    let Some(packet) = parts.bag.get(k) else { return Ok(Noted::nothing()); };
+    let Some(packet) = parts.bag.get(k) else {
+        return Ok(Noted::nothing());
+    };
     let heard = parts.clients[i].take(packet)?;
     Ok(Noted {
         told: telling(client, heard.told),
@@ -120,7 +127,9 @@ fn arrive_at_server(parts: &mut Parts, server: ServerId, k: usize) -> Result<Not
     if i >= parts.servers.len() {
         return Ok(Noted::nothing());
     }
-    let Some(packet) = parts.bag.get(k) else { return Ok(Noted::nothing()); };
+    let Some(packet) = parts.bag.get(k) else {
+        return Ok(Noted::nothing());
+    };
     let effects = parts.servers[i].take(packet)?;
     parts.bag.append(effects.packets)?;
     parts.journal.append(effects.committed)?;

@@ -6,5 +6,4 @@ ghost use Rattle.kr_protocol.specs.Laws.{RepeatsChangeNothing};
 /// second place.
 pub fn repeats_change_nothing()
     ensures { RepeatsChangeNothing }
-{
-}
+{}

@@ -1,0 +1,92 @@
+//! The top call: words, whole input, its lines, and the run.
+
+ghost use Rattle.std.specs.Prelude.{◌≡◌, ◌⊎◌, ◌↔◌, map, IsTrue};
+ghost use Rattle.std.specs.Rc.{rc_str_bytes};
+ghost use Rattle.std.specs.Io.KnownBytes.{Consumes, Keeps, IsAtEnd};
+ghost use Rattle.kronos.specs.Ends.{Ends, EndsOnWrite, EndsOnBytes, IsForm, IsServed, usage_line, bad_line};
+ghost use Rattle.kr_text.specs.Causes.{Rose};
+
+use crate::exit::Exit;
+use crate::run::{Stop, run};
+use kr_text::{ReadStop, Sink, Source, read_all, write_all};
+use script_lang::{ScriptStop, read_script};
+use std::alloc::Global;
+use std::rc::RcStr;
+use std::thread::Threads;
+
+// The greatest number of bytes of an input.
+const INPUT_LIMIT: usize = 1_048_576;
+
+// What is written where the words are no form.
+const USAGE: &[u8] = b"usage: kronos script, load N, live, audit, import, chain\n";
+
+/// Runs the program: with the word `script` it reads the whole source as a script, of at most 1,048,576 bytes,
+/// runs it step by step, and writes its transcript. Any other words are no form. The answer is the first refusal
+/// that is met, in the order words, input, lines, run.
+pub fn kronos_script<R: Threads + Sync, S: Source, K: Sink>(rt: &R, alloc: Global, words: &[RcStr], source: &mut S, sink: &mut K) -> Exit
+    ensures ends { Ends result (map rc_str_bytes words.now) (S.left source.old) (S.left source.new) (K.held sink.old) (K.held sink.new) (S.faults source.old) (S.faults source.new) (K.faults sink.old) (K.faults sink.new) }
+    ensures complete { IsServed (map rc_str_bytes words.now) (S.left source.old) (S.faults source.old) (S.faults source.new) (K.faults sink.old) (K.faults sink.new) → (result ≡ Exit.Done) ⊎ (result ≡ Exit.NoMemory) }
+{
+    script_lang::laws::bad_lines_are_in_no_script();
+    run_words(rt, alloc, words, source, sink)
+}
+
+// The same, by its ends alone.
+fn run_words<R: Threads + Sync, S: Source, K: Sink>(rt: &R, alloc: Global, words: &[RcStr], source: &mut S, sink: &mut K) -> Exit
+    ensures { Ends result (map rc_str_bytes words.now) (S.left source.old) (S.left source.new) (K.held sink.old) (K.held sink.new) (S.faults source.old) (S.faults source.new) (K.faults sink.old) (K.faults sink.new) }
+{
+    if !is_form(words) {
+        return put(sink, USAGE, Exit::Usage);
+    }
+    let bytes = match read_all(alloc, source, INPUT_LIMIT) {
+        Ok(bytes) => bytes,
+        Err(ReadStop::Fault) => return Exit::ReadFault,
+        Err(ReadStop::TooLong) => return Exit::TooLong,
+        Err(ReadStop::NoMemory) => return Exit::NoMemory,
+    };
+    run_bytes(rt, alloc, bytes.as_slice(), sink)
+}
+
+// Reads the bytes as a script and runs it.
+fn run_bytes<R: Threads + Sync, K: Sink>(rt: &R, alloc: Global, bytes: &[u8], sink: &mut K) -> Exit
+    ensures { EndsOnBytes result bytes.now (K.held sink.old) (K.held sink.new) (K.faults sink.old) (K.faults sink.new) }
+{
+    kr_world::laws::runs_are_lawful();
+    let script = match read_script(alloc, bytes) {
+        Ok(script) => script,
+        Err(ScriptStop::BadLine(n)) => return put_bad_line(sink, n),
+        Err(ScriptStop::NoMemory) => return Exit::NoMemory,
+    };
+    match run(rt, alloc, &script, sink) {
+        Ok(()) => Exit::Done,
+        Err(Stop::Write) => Exit::WriteFault,
+        Err(Stop::Memory) => Exit::NoMemory,
+    }
+}
+
+// Whether the words ask for the run of a script.
+fn is_form(words: &[RcStr]) -> bool
+    ensures { IsTrue result ↔ IsForm (map rc_str_bytes words.now) }
+{
+    match words {
+        [word] => word.as_str() == "script",
+        _ => false,
+    }
+}
+
+// Writes a line and answers its exit, or the fault of the sink.
+fn put<K: Sink>(sink: &mut K, line: &[u8], exit: Exit) -> Exit
+    ensures { EndsOnWrite result exit line.now (K.held sink.old) (K.held sink.new) (K.faults sink.old) (K.faults sink.new) }
+{
+    match write_all(sink, line) {
+        Ok(()) => exit,
+        Err(_) => Exit::WriteFault,
+    }
+}
+
+// Says which line is bad.
+fn put_bad_line<K: Sink>(sink: &mut K, n: u64) -> Exit
+    ensures { EndsOnWrite result (Exit.BadLine n) (bad_line n) (K.held sink.old) (K.held sink.new) (K.faults sink.old) (K.faults sink.new) }
+{
+    put(sink, ..)
+}
