@@ -1,5 +1,5 @@
 -- What each end of the program says: what was read, what was written, and why it came.
-use Rattle.std.specs.Prelude.{◌⊎◌, ◌≡◌, ℕ, ◌≤◌, List, [], ◌∷◌, ◌++◌, length, codes, Option, Some}
+use Rattle.std.specs.Prelude.{◌≡◌, ℕ, ◌≤◌, List, [], ◌∷◌, ◌++◌, length, codes, Option, Some}
 use Rattle.std.specs.Fmt.{decimal}
 use Rattle.std.specs.Io.KnownBytes.{Consumes, Appends, Keeps, IsAtEnd}
 use Rattle.kr_text.specs.Causes.{Rose}
@@ -94,11 +94,6 @@ pub record IsServed (words : List (List ℕ)) (left : Option (List ℕ)) (reads 
   pub parses : Parses bytes script
   pub read : Rose reads reads' → ⊥
   pub written : Rose writes writes' → ⊥
-
--- a line was written and the program ends so, or a fault of the sink came
-abbrev pub EndsOnWrite : Exit → Exit → List ℕ → Option (List ℕ) → Option (List ℕ) → ℕ → ℕ → Type 0
-EndsOnWrite result exit text held held' faults faults' =
-    ((result ≡ exit) × Appends held held' text) ⊎ ((result ≡ WriteFault) × Rose faults faults')
 
 -- the bytes are a script, whose text was written
 pub record RanBytes (bytes : List ℕ) (held held' : Option (List ℕ)) : Type 0 where

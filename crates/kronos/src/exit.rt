@@ -3,6 +3,8 @@
 ghost use Rattle.std.specs.Prelude.{◌≡◌};
 ghost use Rattle.kronos.specs.Exits.{status_of};
 
+use std::alloc::{AllocError, AllocFailed};
+
 /// How a run of the program ends.
 #[derive(Clone, Copy, Debug, PartialEq, Eq)]
 pub enum Exit {
@@ -37,5 +39,17 @@ impl Exit {
             Exit::WriteFault => 6,
             Exit::NoMemory => 7,
         }
+    }
+}
+
+impl From<AllocError> for Exit {
+    fn from(_: AllocError) -> Self {
+        Exit::NoMemory
+    }
+}
+
+impl<T: Drop> From<AllocFailed<T>> for Exit {
+    fn from(_: AllocFailed<T>) -> Self {
+        Exit::NoMemory
     }
 }

@@ -12,16 +12,22 @@ use exit::Exit;
 use kr_text::{StdSink, StdSource};
 use script::kronos_script;
 use std::alloc::{AllocError, Global};
+use std::env::Env;
 use std::process::ExitCode;
 use std::rc::RcStr;
 use std::{env, io};
 
-// The words after the program's name; none where some argument is not UTF-8.
+// The words after the program's name. Arguments that are not UTF-8 are a faulty command line.
 fn words(rt: &(impl Env + AllocGlobal)) -> Result<Vec<RcStr>, Exit> {
     let alloc = rt.alloc();
+    let args = match env::args(rt) {
+        Ok(args) => args,
+        Err(error) if error.kind() == io::ErrorKind::OutOfMemory => return Err(Exit::NoMemory),
+        Err(_) => return Err(Exit::Usage),
+    };
     let mut words = Vec::new(alloc);
-    for word in args.skip(1) {
-        words.push(RcStr::from_string(word)?)?;
+    for arg in args.skip(1) {
+        words.push(RcStr::from_string(arg)?)?;
     }
     Ok(words)
 }

@@ -2,13 +2,13 @@
 
 ghost use Rattle.std.specs.Prelude.{◌≡◌, ◌≤◌};
 ghost use Rattle.script_lang.specs.Script.{IsScript};
-ghost use Rattle.kronos.specs.Runs.{Runs, Turns, Finishes};
+ghost use Rattle.kronos.specs.Runs.{Runs, RunsEvents, Turns, Finishes};
 
 use cluster_sim::Cluster;
 use kr_order::NoMemory;
 use kr_text::{Sink, WriteStop, write_all};
 use script_lang::{Event, Script};
-use std::alloc::Global;
+use std::alloc::{AllocError, Global};
 use std::thread::Threads;
 
 /// Why a run ends before its text does.
@@ -31,6 +31,17 @@ impl From<WriteStop> for Stop {
     }
 }
 
+impl From<AllocError> for Stop {
+    ghost use Rattle.std.specs.Prelude.{◌≡◌};
+    ghost use Rattle.kronos.specs.declared.run.Stop.TheVariants.{Memory};
+
+    ghost from_gives = { λ _ stop. stop ≡ Memory };
+
+    fn from(_: AllocError) -> Self {
+        Stop::Memory
+    }
+}
+
 impl From<NoMemory> for Stop {
     ghost use Rattle.std.specs.Prelude.{◌≡◌};
     ghost use Rattle.kronos.specs.declared.run.Stop.TheVariants.{Memory};
@@ -48,10 +59,19 @@ pub fn run<R: Threads + Sync, K: Sink>(rt: &R, alloc: Global, script: &Script, s
     ensures { Runs script.now result (K.held sink.old) (K.held sink.new) (K.faults sink.old) (K.faults sink.new) }
 {
     let mut cluster = Cluster::new(alloc, script.servers, script.clients)?;
-    for event in script.events.as_slice() {
-        turn(rt, &mut cluster, event, sink)?;
-    }
+    run_events(rt, &mut cluster, script.events.as_slice(), sink)?;
     finish(&cluster, sink)
+}
+
+// Does the steps of the events, one after the other, and writes their lines.
+fn run_events<R: Threads + Sync, K: Sink>(rt: &R, cluster: &mut Cluster, events: &[Event], sink: &mut K) -> Result<(), Stop>
+    ensures later { K.faults sink.old ≤ K.faults sink.new }
+    ensures ran { RunsEvents cluster.old events.now result cluster.new (K.held sink.old) (K.held sink.new) (K.faults sink.old) (K.faults sink.new) }
+{
+    for event in events {
+        turn(rt, cluster, event, sink)?;
+    }
+    Ok(())
 }
 
 // Does one step and writes its lines.

@@ -1,14 +1,13 @@
 //! The top call: words, whole input, its lines, and the run.
 
-ghost use Rattle.std.specs.Prelude.{◌≡◌, ◌⊎◌, ◌↔◌, map, IsTrue};
+ghost use Rattle.std.specs.Prelude.{◌≡◌, ◌⊎◌, ◌↔◌, ℕ, List, map, codes, IsTrue};
 ghost use Rattle.std.specs.Rc.{rc_str_bytes};
-ghost use Rattle.std.specs.Io.KnownBytes.{Consumes, Keeps, IsAtEnd};
-ghost use Rattle.kronos.specs.Ends.{Ends, EndsOnWrite, EndsOnBytes, IsForm, IsServed, usage_line, bad_line};
-ghost use Rattle.kr_text.specs.Causes.{Rose};
+ghost use Rattle.kronos.specs.Ends.{Ends, EndsOnBytes, IsForm, IsServed, bad_line};
+ghost use Rattle.kronos.specs.Runs.{IsWritten, exit_after};
 
 use crate::exit::Exit;
 use crate::run::{Stop, run};
-use kr_text::{ReadStop, Sink, Source, read_all, write_all};
+use kr_text::{ReadStop, Sink, Source, WriteStop, read_all, write_all};
 use script_lang::{ScriptStop, read_script};
 use std::alloc::Global;
 use std::rc::RcStr;
@@ -35,9 +34,19 @@ pub fn kronos_script<R: Threads + Sync, S: Source, K: Sink>(rt: &R, alloc: Globa
 fn run_words<R: Threads + Sync, S: Source, K: Sink>(rt: &R, alloc: Global, words: &[RcStr], source: &mut S, sink: &mut K) -> Exit
     ensures { Ends result (map rc_str_bytes words.now) (S.left source.old) (S.left source.new) (K.held sink.old) (K.held sink.new) (S.faults source.old) (S.faults source.new) (K.faults sink.old) (K.faults sink.new) }
 {
-    if !is_form(words) {
-        return put(sink, USAGE, Exit::Usage);
+    if is_form(words) {
+        return run_input(rt, alloc, source, sink);
     }
+    match write_all(sink, USAGE) {
+        Ok(()) => Exit::Usage,
+        Err(WriteStop::Fault) => Exit::WriteFault,
+    }
+}
+
+// Reads the whole input and runs it.
+fn run_input<R: Threads + Sync, S: Source, K: Sink>(rt: &R, alloc: Global, source: &mut S, sink: &mut K) -> Exit
+    ensures { (words : List (List ℕ)) → IsForm words → Ends result words (S.left source.old) (S.left source.new) (K.held sink.old) (K.held sink.new) (S.faults source.old) (S.faults source.new) (K.faults sink.old) (K.faults sink.new) }
+{
     let bytes = match read_all(alloc, source, INPUT_LIMIT) {
         Ok(bytes) => bytes,
         Err(ReadStop::Fault) => return Exit::ReadFault,
@@ -54,14 +63,30 @@ fn run_bytes<R: Threads + Sync, K: Sink>(rt: &R, alloc: Global, bytes: &[u8], si
     kr_world::laws::runs_are_lawful();
     let script = match read_script(alloc, bytes) {
         Ok(script) => script,
-        Err(ScriptStop::BadLine(n)) => return put_bad_line(sink, n),
+        Err(ScriptStop::BadLine(n)) => return exit_of(say_bad_line(alloc, sink, n), Exit::BadLine(n)),
         Err(ScriptStop::NoMemory) => return Exit::NoMemory,
     };
-    match run(rt, alloc, &script, sink) {
-        Ok(()) => Exit::Done,
+    exit_of(run(rt, alloc, &script, sink), Exit::Done)
+}
+
+// The exit of a call that writes.
+fn exit_of(written: Result<(), Stop>, exit: Exit) -> Exit
+    ensures { result ≡ exit_after written exit }
+{
+    match written {
+        Ok(()) => exit,
         Err(Stop::Write) => Exit::WriteFault,
         Err(Stop::Memory) => Exit::NoMemory,
     }
+}
+
+// Writes which line is bad.
+fn say_bad_line<K: Sink>(alloc: Global, sink: &mut K, n: u64) -> Result<(), Stop>
+    ensures { IsWritten (bad_line n) result (K.held sink.old) (K.held sink.new) (K.faults sink.old) (K.faults sink.new) }
+{
+    let line = format!(in alloc; "bad line {n}\n")?;
+    write_all(sink, line.as_bytes())?;
+    Ok(())
 }
 
 // Whether the words ask for the run of a script.
@@ -69,24 +94,14 @@ fn is_form(words: &[RcStr]) -> bool
     ensures { IsTrue result ↔ IsForm (map rc_str_bytes words.now) }
 {
     match words {
-        [word] => word.as_str() == "script",
+        [word] => is_script(word),
         _ => false,
     }
 }
 
-// Writes a line and answers its exit, or the fault of the sink.
-fn put<K: Sink>(sink: &mut K, line: &[u8], exit: Exit) -> Exit
-    ensures { EndsOnWrite result exit line.now (K.held sink.old) (K.held sink.new) (K.faults sink.old) (K.faults sink.new) }
+// Whether the word is `script`.
+fn is_script(word: &RcStr) -> bool
+    ensures { IsTrue result ↔ (rc_str_bytes word.now ≡ codes "script") }
 {
-    match write_all(sink, line) {
-        Ok(()) => exit,
-        Err(_) => Exit::WriteFault,
-    }
-}
-
-// Says which line is bad.
-fn put_bad_line<K: Sink>(sink: &mut K, n: u64) -> Exit
-    ensures { EndsOnWrite result (Exit.BadLine n) (bad_line n) (K.held sink.old) (K.held sink.new) (K.faults sink.old) (K.faults sink.new) }
-{
-    put(sink, ..)
+    word.as_str() == "script"
 }
