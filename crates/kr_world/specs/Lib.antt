@@ -7,3 +7,4 @@ pub mod Rows
 pub mod Sound
 pub mod Lawful
 pub mod Facts
+pub mod FullBag

@@ -40,5 +40,5 @@ one_further first events i old new d held mid held' faults midway faults' within
       written = so_far.written ++ lines;
       taken = Appends-trans held mid held' so_far.written lines so_far.taken turn.written;
       rest = so_far.rest ∙ ap (λ t. so_far.written ++ t) (text_on-step events i old.world d within ∙ ap (λ w. lines ++ text_on w (drop (i + 1) events)) (sym now)) ∙ sym (append_assoc so_far.written lines (text_on new.world (drop (i + 1) events)));
-      later = omega arith
+      later = omega arith;
     }

@@ -25,7 +25,6 @@ usage_line = line (codes "usage: kronos script, load N, live, audit, import, cha
 abbrev pub bad_line : ℕ → List ℕ
 bad_line n = line (codes "bad line " ++ decimal n)
 
-
 -- Done: the whole input was read and is a script, and the text of its run was written, which is lawful.
 pub record HasRun (words : List (List ℕ)) (left left' held held' : Option (List ℕ)) : Type 0 where
   pub form : IsForm words

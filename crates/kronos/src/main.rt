@@ -5,6 +5,8 @@
 #![tactic(auto)]
 
 mod exit;
+#[cfg(test)]
+mod rows;
 mod run;
 mod script;
 

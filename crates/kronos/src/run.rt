@@ -54,7 +54,12 @@ impl From<NoMemory> for Stop {
 }
 
 /// Runs the script, and writes its text: the lines of each step, and then those of the history.
-pub fn run<R: Threads + Sync, K: Sink>(rt: &R, alloc: Global, script: &Script, sink: &mut K) -> Result<(), Stop>
+pub fn run<R: Threads + Sync, K: Sink>(
+    rt: &R,
+    alloc: Global,
+    script: &Script,
+    sink: &mut K,
+) -> Result<(), Stop>
     requires { IsScript script.now }
     ensures { Runs script.now result (K.held sink.old) (K.held sink.new) (K.faults sink.old) (K.faults sink.new) }
 {
@@ -64,7 +69,12 @@ pub fn run<R: Threads + Sync, K: Sink>(rt: &R, alloc: Global, script: &Script, s
 }
 
 // Does the steps of the events, one after the other, and writes their lines.
-fn run_events<R: Threads + Sync, K: Sink>(rt: &R, cluster: &mut Cluster, events: &[Event], sink: &mut K) -> Result<(), Stop>
+fn run_events<R: Threads + Sync, K: Sink>(
+    rt: &R,
+    cluster: &mut Cluster,
+    events: &[Event],
+    sink: &mut K,
+) -> Result<(), Stop>
     ensures later { K.faults sink.old ≤ K.faults sink.new }
     ensures ran { RunsEvents cluster.old events.now result cluster.new (K.held sink.old) (K.held sink.new) (K.faults sink.old) (K.faults sink.new) }
 {
@@ -75,7 +85,12 @@ fn run_events<R: Threads + Sync, K: Sink>(rt: &R, cluster: &mut Cluster, events:
 }
 
 // Does one step and writes its lines.
-fn turn<R: Threads + Sync, K: Sink>(rt: &R, cluster: &mut Cluster, event: &Event, sink: &mut K) -> Result<(), Stop>
+fn turn<R: Threads + Sync, K: Sink>(
+    rt: &R,
+    cluster: &mut Cluster,
+    event: &Event,
+    sink: &mut K,
+) -> Result<(), Stop>
     ensures later { K.faults sink.old ≤ K.faults sink.new }
     ensures turns { Turns cluster.old event.now result cluster.new (K.held sink.old) (K.held sink.new) (K.faults sink.old) (K.faults sink.new) }
 {
@@ -88,7 +103,7 @@ fn turn<R: Threads + Sync, K: Sink>(rt: &R, cluster: &mut Cluster, event: &Event
 fn finish<K: Sink>(cluster: &Cluster, sink: &mut K) -> Result<(), Stop>
     ensures { Finishes cluster.now result (K.held sink.old) (K.held sink.new) (K.faults sink.old) (K.faults sink.new) }
 {
-    let lines = cluster.finish()?;
-    write_all(sink, lines.as_slice())?;
+    let ending = cluster.finish()?;
+    write_all(sink, ending.as_slice())?;
     Ok(())
 }

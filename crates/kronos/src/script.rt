@@ -22,7 +22,13 @@ const USAGE: &[u8] = b"usage: kronos script, load N, live, audit, import, chain\
 /// Runs the program: with the word `script` it reads the whole source as a script, of at most 1,048,576 bytes,
 /// runs it step by step, and writes its transcript. Any other words are no form. The answer is the first refusal
 /// that is met, in the order words, input, lines, run.
-pub fn kronos_script<R: Threads + Sync, S: Source, K: Sink>(rt: &R, alloc: Global, words: &[RcStr], source: &mut S, sink: &mut K) -> Exit
+pub fn kronos_script<R: Threads + Sync, S: Source, K: Sink>(
+    rt: &R,
+    alloc: Global,
+    words: &[RcStr],
+    source: &mut S,
+    sink: &mut K,
+) -> Exit
     ensures ends { Ends result (map rc_str_bytes words.now) (S.left source.old) (S.left source.new) (K.held sink.old) (K.held sink.new) (S.faults source.old) (S.faults source.new) (K.faults sink.old) (K.faults sink.new) }
     ensures complete { IsServed (map rc_str_bytes words.now) (S.left source.old) (S.faults source.old) (S.faults source.new) (K.faults sink.old) (K.faults sink.new) → (result ≡ Exit.Done) ⊎ (result ≡ Exit.NoMemory) }
 {
@@ -31,7 +37,13 @@ pub fn kronos_script<R: Threads + Sync, S: Source, K: Sink>(rt: &R, alloc: Globa
 }
 
 // The same, by its ends alone.
-fn run_words<R: Threads + Sync, S: Source, K: Sink>(rt: &R, alloc: Global, words: &[RcStr], source: &mut S, sink: &mut K) -> Exit
+fn run_words<R: Threads + Sync, S: Source, K: Sink>(
+    rt: &R,
+    alloc: Global,
+    words: &[RcStr],
+    source: &mut S,
+    sink: &mut K,
+) -> Exit
     ensures { Ends result (map rc_str_bytes words.now) (S.left source.old) (S.left source.new) (K.held sink.old) (K.held sink.new) (S.faults source.old) (S.faults source.new) (K.faults sink.old) (K.faults sink.new) }
 {
     if is_form(words) {
@@ -44,7 +56,12 @@ fn run_words<R: Threads + Sync, S: Source, K: Sink>(rt: &R, alloc: Global, words
 }
 
 // Reads the whole input and runs it.
-fn run_input<R: Threads + Sync, S: Source, K: Sink>(rt: &R, alloc: Global, source: &mut S, sink: &mut K) -> Exit
+fn run_input<R: Threads + Sync, S: Source, K: Sink>(
+    rt: &R,
+    alloc: Global,
+    source: &mut S,
+    sink: &mut K,
+) -> Exit
     ensures { (words : List (List ℕ)) → IsForm words → Ends result words (S.left source.old) (S.left source.new) (K.held sink.old) (K.held sink.new) (S.faults source.old) (S.faults source.new) (K.faults sink.old) (K.faults sink.new) }
 {
     let bytes = match read_all(alloc, source, INPUT_LIMIT) {
@@ -63,7 +80,10 @@ fn run_bytes<R: Threads + Sync, K: Sink>(rt: &R, alloc: Global, bytes: &[u8], si
     kr_world::laws::runs_are_lawful();
     let script = match read_script(alloc, bytes) {
         Ok(script) => script,
-        Err(ScriptStop::BadLine(n)) => return exit_of(say_bad_line(alloc, sink, n), Exit::BadLine(n)),
+        Err(ScriptStop::BadLine(n)) => return exit_of(
+            say_bad_line(alloc, sink, n),
+            Exit::BadLine(n),
+        ),
         Err(ScriptStop::NoMemory) => return Exit::NoMemory,
     };
     exit_of(run(rt, alloc, &script, sink), Exit::Done)

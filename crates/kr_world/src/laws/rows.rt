@@ -1,6 +1,7 @@
 //! Worked runs: what the definitions print for a script, against a text that was computed by hand.
 
 ghost use Rattle.std.specs.Prelude.{◌≡◌};
+ghost use Rattle.kr_world.specs.FullBag.{AFullBagRefuses};
 ghost use Rattle.kr_world.specs.Run.{text_of};
 ghost use Rattle.kr_world.specs.Rows.{create_an_event, create_an_event_text, request_delivered_twice, request_delivered_twice_text, refused_steps, refused_steps_text, two_events, two_events_text};
 
@@ -15,7 +16,7 @@ pub fn a_repeated_request_has_one_place()
     ensures { text_of request_delivered_twice ≡ request_delivered_twice_text }
 {}
 
-/// Each refused word but the one for a full bag.
+/// Each refused word but the one for a full bag, which has the law below.
 pub fn refused_steps_change_nothing()
     ensures { text_of refused_steps ≡ refused_steps_text }
 {}
@@ -23,4 +24,9 @@ pub fn refused_steps_change_nothing()
 /// A second create gives the second event.
 pub fn events_are_numbered_in_order()
     ensures { text_of two_events ≡ two_events_text }
+{}
+
+/// A full bag refuses each call of an idle client, and each delivery.
+pub fn a_full_bag_refuses()
+    ensures { AFullBagRefuses }
 {}

@@ -1,0 +1,5 @@
+use Rattle.kr_world.proofs.StepLemmas.{full_refuses}
+use Rattle.kr_world.proofs.laws.rows.a_full_bag_refuses.Goals as goal
+
+pub returns : goal.returns
+returns c = full_refuses
