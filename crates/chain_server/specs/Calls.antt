@@ -1,6 +1,9 @@
 -- What the calls of a server do.
-use Rattle.std.specs.Prelude.{◌≡◌, ◌++◌, true, false, [], Result, Ok, Err}
+use Rattle.std.specs.Prelude.{ℕ, List, ◌≡◌, ◌++◌, true, false, [], Result, Ok, Err}
+use Rattle.kr_order.specs.declared.ids.ClientId.{ClientId}
+use Rattle.kr_order.specs.declared.ids.EventId.{EventId}
 use Rattle.kr_order.specs.declared.ids.ServerId.{ServerId}
+use Rattle.kr_order.specs.declared.answer.Query.{Query}
 use Rattle.kr_order.specs.declared.ids.NoMemory.{NoMemory as OutOfMemory}
 use Rattle.kr_order.specs.declared.message.Packet.{Packet}
 use Rattle.kr_order.specs.Done.{done_of}
@@ -10,7 +13,11 @@ use Rattle.chain_server.specs.declared.server.Effects.{Effects}
 use Rattle.chain_server.specs.Standing.{Standing}
 
 abbrev pub new_server : ServerId → Standing
-new_server id = record { server = record { id = id; log = [] }; failed = false }
+new_server id = record { server = record { id = id; log = []; waiting = [] }; failed = false }
+
+-- a client's query
+abbrev pub query_of : ClientId → ℕ → ℕ → List (EventId × EventId) → Query
+query_of client q part pairs = record { client = client; q = q; part = part; pairs = pairs }
 
 -- the server does as this reaction says, and tells the entries that it has newly applied
 pub record Heeds (old : Standing) (reaction : Reaction Server) (effects : Effects) (new : Standing) : Type 0 where

@@ -1,14 +1,14 @@
 //! The server and its handlers, one for each message.
 
-ghost use Rattle.std.specs.Prelude.{◌≡◌, ◌+◌, ◌^◌, ◌<◌, [], ◌∷◌, ◌++◌, length, false, IfOk, OnOk};
+ghost use Rattle.std.specs.Prelude.{◌≡◌, ◌+◌, ◌^◌, ◌<◌, [], ◌∷◌, ◌++◌, length, map, false, IfOk, OnOk};
 ghost use Rattle.kr_order.specs.Done.{done_after};
 ghost use Rattle.kr_protocol.specs.Reaction.{ignored};
-ghost use Rattle.kr_protocol.specs.Server.{after_request, enters, reply_packet};
-ghost use Rattle.chain_server.specs.Calls.{Takes, Does, new_server};
+ghost use Rattle.kr_protocol.specs.Server.{after_request, after_ask, enters, reply_packet, answers_after, answer_packet, server_works};
+ghost use Rattle.chain_server.specs.Calls.{Takes, Does, new_server, query_of};
 
 use kr_order::{
-    ClientId, Command, Copied, DoneEntry, DoneList, Entry, Message, NoMemory, Node, Packet,
-    Packets, Placed, ServerId,
+    Answers, Asked, ClientId, Command, Copied, DoneEntry, DoneList, Entry, EventId, Listed,
+    Message, NoMemory, Node, Packet, Packets, Placed, Query, ServerId, Told,
 };
 use order_state::State;
 use std::alloc::Global;
@@ -66,12 +66,16 @@ fn apply(state: &mut State, entry: Entry) -> Result<DoneEntry, NoMemory>
     })
 }
 
+// So many queries wait at the most.
+const MOST_WAITING: usize = 64;
+
 /// A server, which is the whole chain: head and tail at once.
 #[derive(Debug, Drop)]
 pub struct Server {
     alloc: Global,
     id: ServerId,
     state: State,
+    waiting: Listed<Query>,
     failed: bool,
 }
 
@@ -80,7 +84,7 @@ impl Model for Server {
 
     ghost Value = { Standing };
 
-    ghost view = { λ s. record { server = record { id = s.id; log = s.state.history }; failed = s.failed } };
+    ghost view = { λ s. record { server = record { id = s.id; log = s.state.history; waiting = s.waiting }; failed = s.failed } };
 }
 
 // The reply of a client's command.
@@ -96,6 +100,57 @@ fn reply_to(id: ServerId, client: ClientId, seq: u64, placed: Placed) -> Packet
     }
 }
 
+// The answers to these pairs after the state's history.
+fn answers(alloc: Global, state: &State, pairs: &[(EventId, EventId)]) -> Result<Answers, NoMemory>
+    ensures { IfOk result (λ answers. answers ≡ answers_after state.now.history pairs.now) }
+{
+    let mut answers = Answers::new(alloc);
+    for pair in pairs {
+        answers.push(state.answer(pair.0, pair.1)?)?;
+    }
+    Ok(answers)
+}
+
+// The answers to a query, for its client.
+fn answer_packet(
+    alloc: Global,
+    id: ServerId,
+    state: &State,
+    query: &Query,
+) -> Result<Packet, NoMemory>
+    ensures { IfOk result (λ packet. packet ≡ answer_packet id state.now.history query.now) }
+{
+    let answers = answers(alloc, state, query.pairs.as_slice())?;
+    Ok(Packet {
+        from: Node::Server(id),
+        to: Node::Client(query.client),
+        message: Message::Answered {
+            q: query.q,
+            part: query.part,
+            told: Told {
+                entry: state.count(),
+                answers,
+            },
+        },
+    })
+}
+
+// The answers to these queries, in their order.
+fn answer_packets(
+    alloc: Global,
+    id: ServerId,
+    state: &State,
+    waiting: &[Query],
+) -> Result<Packets, NoMemory>
+    ensures { IfOk result (λ packets. packets ≡ map (answer_packet id state.now.history) waiting.now) }
+{
+    let mut packets = Packets::new(alloc);
+    for query in waiting {
+        packets.push(answer_packet(alloc, id, state, query)?)?;
+    }
+    Ok(packets)
+}
+
 impl Server {
     /// A server with an empty log.
     pub fn founder(alloc: Global, id: ServerId) -> Server
@@ -105,13 +160,14 @@ impl Server {
             alloc,
             id,
             state: State::new(alloc),
+            waiting: Listed::new(alloc),
             failed: false,
         }
     }
 
     /// Takes a packet that is addressed to the server. A request that is new goes into the log, is applied and
-    /// replied; the client's last one once more is replied again; any other packet changes nothing and sends
-    /// nothing.
+    /// replied; the client's last one once more is replied again; a query waits until the server works, unless 64
+    /// wait already; any other packet changes nothing and sends nothing.
     pub fn take(&mut self, packet: &Packet) -> Result<Effects, NoMemory>
         requires { length self.old.server.log < 2 ^ 58 }
         ensures { Takes self.old packet.now result self.new }
@@ -124,8 +180,55 @@ impl Server {
                 Node::Client(client) => self.take_request(client, *seq, command),
                 Node::Manager | Node::Server(_) => Ok(Effects::none(self.alloc)),
             },
-            Message::Replied { .. } => Ok(Effects::none(self.alloc)),
+            Message::Ask { q, part, pairs } => match packet.from {
+                Node::Client(client) => self.take_ask(client, *q, *part, pairs),
+                Node::Manager | Node::Server(_) => Ok(Effects::none(self.alloc)),
+            },
+            Message::Replied { .. } | Message::Answered { .. } => Ok(Effects::none(self.alloc)),
         }
+    }
+
+    // A client asks about pairs of events.
+    fn take_ask(
+        &mut self,
+        client: ClientId,
+        q: u64,
+        part: u8,
+        pairs: &Asked,
+    ) -> Result<Effects, NoMemory>
+        requires whole { self.old.failed ≡ false }
+        ensures { Does self.old (after_ask self.old.server (query_of client q part pairs.now)) result self.new }
+    {
+        if self.waiting.len() >= MOST_WAITING {
+            return Ok(Effects::none(self.alloc));
+        }
+        self.failed = true;
+        let pairs = pairs.copy()?;
+        self.waiting.push(Query {
+            client,
+            q,
+            part,
+            pairs,
+        })?;
+        self.failed = false;
+        Ok(Effects::none(self.alloc))
+    }
+
+    /// Answers every waiting query, the oldest first, from all that the server has applied; then none waits.
+    pub fn work(&mut self) -> Result<Effects, NoMemory>
+        ensures { Does self.old (server_works self.old.server) result self.new }
+    {
+        if self.failed {
+            return Err(NoMemory);
+        }
+        self.failed = true;
+        let packets = answer_packets(self.alloc, self.id, &self.state, self.waiting.as_slice())?;
+        self.waiting = Listed::new(self.alloc);
+        self.failed = false;
+        Ok(Effects {
+            committed: DoneList::new(self.alloc),
+            packets,
+        })
     }
 
     // A client asks for its command of this number.

@@ -1,24 +1,26 @@
 -- What the calls of a client do.
-use Rattle.std.specs.Prelude.{◌≡◌, Bool, true, false, [], ◌∷◌, Option, None, Result, Ok, Err, IsSome, is_some}
+use Rattle.std.specs.Prelude.{◌≡◌, true, false, [], ◌∷◌, List, Result, Ok, Err}
 use Rattle.kr_order.specs.declared.ids.NoMemory.{NoMemory as OutOfMemory}
+use Rattle.kr_order.specs.declared.ids.EventId.{EventId}
+use Rattle.kr_order.specs.declared.ids.ServerId.{ServerId}
 use Rattle.kr_order.specs.declared.history.Command.{Command}
 use Rattle.kr_order.specs.declared.message.Packet.{Packet}
-use Rattle.kr_protocol.specs.Client.{Hearing, begins, client_takes}
+use Rattle.kr_protocol.specs.Client.{Hearing, is_busy, begins, asks, client_takes}
 use Rattle.client_session.specs.declared.client.CallStop.{CallStop}
 use Rattle.client_session.specs.declared.client.CallStop.TheVariants.{Busy, NoMemory}
 use Rattle.client_session.specs.declared.client.Heard.{Heard}
 use Rattle.client_session.specs.Standing.{Standing}
 
--- the call was opened, and its request is to be sent
+-- the command was opened, and its request is to be sent
 pub record Opens (old : Standing) (command : Command) (packet : Packet) (new : Standing) : Type 0 where
-  pub idle : old.client.call ≡ None
+  pub idle : is_busy old.client ≡ false
   pub whole : old.failed ≡ false
   pub after : new ≡ record { client = (begins old.client command).after; failed = false }
   pub sent : (begins old.client command).sent ≡ packet ∷ []
 
 -- a call is open already, and stays
 pub record StaysBusy (old new : Standing) : Type 0 where
-  pub busy : IsSome old.client.call
+  pub busy : is_busy old.client ≡ true
   pub whole : old.failed ≡ false
   pub after : new ≡ old
 
@@ -27,10 +29,23 @@ Begins old command (Ok packet) new = Opens old command packet new
 Begins old command (Err Busy) new = StaysBusy old new
 Begins old command (Err NoMemory) new = new.failed ≡ true
 
+-- the query was opened, and what asks the server is to be sent
+pub record OpensQuery (old : Standing) (server : ServerId) (pairs : List (EventId × EventId)) (packet : Packet) (new : Standing) : Type 0 where
+  pub idle : is_busy old.client ≡ false
+  pub whole : old.failed ≡ false
+  pub after : new ≡ record { client = (asks old.client server pairs).after; failed = false }
+  pub sent : (asks old.client server pairs).sent ≡ packet ∷ []
+
+abbrev pub Asks : Standing → ServerId → List (EventId × EventId) → Result Packet CallStop → Standing → Type 0
+Asks old server pairs (Ok packet) new = OpensQuery old server pairs packet new
+Asks old server pairs (Err Busy) new = StaysBusy old new
+Asks old server pairs (Err NoMemory) new = new.failed ≡ true
+
 -- the client does as this hearing says, or has failed
 pub record Heeds (hearing : Hearing) (heard : Heard) (new : Standing) : Type 0 where
   pub after : new ≡ record { client = hearing.after; failed = false }
   pub told : heard.told ≡ hearing.told
+  pub parts : heard.parts ≡ hearing.parts
 
 abbrev pub Hears : Hearing → Result Heard OutOfMemory → Standing → Type 0
 Hears hearing (Ok heard) new = Heeds hearing heard new

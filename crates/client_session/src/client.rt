@@ -1,11 +1,13 @@
 //! The client and its calls.
 
-ghost use Rattle.std.specs.Prelude.{◌≡◌, ◌^◌, ◌<◌, ℕ, true, false, is_some};
-ghost use Rattle.kr_protocol.specs.Client.{new_client, after_reply};
-ghost use Rattle.client_session.specs.Calls.{Begins, Takes, Hears};
+ghost use Rattle.std.specs.Prelude.{◌≡◌, ◌^◌, ◌<◌, ℕ, true, false, None, []};
+ghost use Rattle.kr_protocol.specs.Client.{new_client, is_busy, after_reply, answers_from};
+ghost use Rattle.client_session.specs.Calls.{Begins, Asks, Takes, Hears};
 
+use crate::answers::{fits, parts_of};
 use kr_order::{
-    ClientId, Command, Copied, Message, NoMemory, Node, Packet, Placed, ServerId, ToldReply,
+    Asked, ClientId, Command, Copied, Message, NoMemory, Node, Packet, Parts, Placed, ServerId,
+    Teller, Told, ToldReply,
 };
 use std::alloc::Global;
 use std::marker::Model;
@@ -36,8 +38,23 @@ impl From<NoMemory> for CallStop {
 /// What a packet brought to the client.
 #[derive(Debug, Drop)]
 pub struct Heard {
-    /// The reply of the client's open call, which is closed by it.
+    /// The reply of the client's open command, which is closed by it.
     pub told: Option<ToldReply>,
+    /// The answers to the pairs of the client's open query, which is closed by them.
+    pub parts: Parts,
+}
+
+impl Heard {
+    // The packet brought nothing.
+    fn nothing(alloc: Global) -> Self
+        ensures told { result.told ≡ None }
+        ensures parts { result.parts ≡ [] }
+    {
+        Heard {
+            told: None,
+            parts: Parts::new(alloc),
+        }
+    }
 }
 
 /// A client. Commands go to the first server of the chain.
@@ -47,6 +64,8 @@ pub struct Client {
     id: ClientId,
     seq: u64,
     call: Option<Command>,
+    q: u64,
+    asking: Option<Asked>,
     seen: u64,
     failed: bool,
 }
@@ -56,7 +75,7 @@ impl Model for Client {
 
     ghost Value = { Standing };
 
-    ghost view = { λ c. record { client = record { id = c.id; seq = c.seq; call = c.call; seen = c.seen }; failed = c.failed } };
+    ghost view = { λ c. record { client = record { id = c.id; seq = c.seq; call = c.call; q = c.q; asking = c.asking; seen = c.seen }; failed = c.failed } };
 }
 
 impl Client {
@@ -69,6 +88,8 @@ impl Client {
             id,
             seq: 0,
             call: None,
+            q: 0,
+            asking: None,
             seen: 0,
             failed: false,
         }
@@ -83,7 +104,7 @@ impl Client {
         if self.failed {
             return Err(CallStop::NoMemory);
         }
-        if self.call.is_some() {
+        if self.is_busy() {
             return Err(CallStop::Busy);
         }
         self.failed = true;
@@ -101,8 +122,38 @@ impl Client {
         })
     }
 
-    /// Takes a packet that is addressed to the client. The reply of its open call is told and closes the call;
-    /// any other packet changes nothing.
+    /// Opens a query, and answers what asks the server, which is to be sent. `Busy` comes where a call is open, and
+    /// then nothing changes; after `NoMemory` the client has failed.
+    pub fn ask(&mut self, pairs: &Asked, server: ServerId) -> Result<Packet, CallStop>
+        requires { self.old.client.q < 2 ^ 63 }
+        ensures { Asks self.old server pairs.now result self.new }
+    {
+        if self.failed {
+            return Err(CallStop::NoMemory);
+        }
+        if self.is_busy() {
+            return Err(CallStop::Busy);
+        }
+        self.failed = true;
+        let kept = pairs.copy()?;
+        let sent = pairs.copy()?;
+        self.q += 1;
+        self.asking = Some(kept);
+        self.failed = false;
+        Ok(Packet {
+            from: Node::Client(self.id),
+            to: Node::Server(server),
+            message: Message::Ask {
+                q: self.q,
+                part: 1,
+                pairs: sent,
+            },
+        })
+    }
+
+    /// Takes a packet that is addressed to the client. The reply of its open command, or the answers to its open
+    /// query, are told and close it; any other packet changes nothing, also one whose answers cannot be those of
+    /// the query.
     pub fn take(&mut self, packet: &Packet) -> Result<Heard, NoMemory>
         ensures { Takes self.old packet.now result self.new }
     {
@@ -110,18 +161,19 @@ impl Client {
             return Err(NoMemory);
         }
         match &packet.message {
-            Message::Request { .. } => Ok(Heard { told: None }),
-            Message::Replied { seq, placed } => self.hear(*seq, placed),
+            Message::Request { .. } | Message::Ask { .. } => Ok(Heard::nothing(self.alloc)),
+            Message::Replied { seq, placed } => self.hear_reply(*seq, placed),
+            Message::Answered { q, part, told } => self.hear_answers(packet.from, *q, *part, told),
         }
     }
 
     // A reply came in.
-    fn hear(&mut self, seq: u64, placed: &Placed) -> Result<Heard, NoMemory>
+    fn hear_reply(&mut self, seq: u64, placed: &Placed) -> Result<Heard, NoMemory>
         requires { self.old.failed ≡ false }
         ensures { Hears (after_reply self.old.client self.old.client.call seq placed.now) result self.new }
     {
         if self.call.is_none() || seq != self.seq {
-            return Ok(Heard { told: None });
+            return Ok(Heard::nothing(self.alloc));
         }
         self.failed = true;
         let placed = placed.copy(self.alloc)?;
@@ -130,17 +182,49 @@ impl Client {
         self.failed = false;
         Ok(Heard {
             told: Some(ToldReply { seq, placed }),
+            parts: Parts::new(self.alloc),
         })
     }
 
-    /// The greatest place that the client was told.
+    // Answers came in.
+    fn hear_answers(&mut self, from: Node, q: u64, part: u8, told: &Told) -> Result<Heard, NoMemory>
+        requires { self.old.failed ≡ false }
+        ensures { Hears (answers_from self.old.client from q part told.now) result self.new }
+    {
+        let Node::Server(server) = from else {
+            return Ok(Heard::nothing(self.alloc));
+        };
+        let Some(pairs) = &self.asking else {
+            return Ok(Heard::nothing(self.alloc));
+        };
+        let answers = told.answers.as_slice();
+        if !fits(q == self.q, part, pairs.as_slice(), answers) {
+            return Ok(Heard::nothing(self.alloc));
+        }
+        let parts = parts_of(
+            self.alloc,
+            self.q,
+            told.entry,
+            Teller::Server(server),
+            pairs.as_slice(),
+            answers,
+        );
+        self.failed = true;
+        let parts = parts?;
+        self.asking = None;
+        self.seen = self.seen.max(told.entry);
+        self.failed = false;
+        Ok(Heard { told: None, parts })
+    }
+
+    /// The greatest place or entry that the client was told.
     pub fn seen(&self) -> u64
         ensures { result ≡ self.now.client.seen }
     {
         self.seen
     }
 
-    /// How many calls the client has begun.
+    /// How many commands the client has begun.
     pub fn begun(&self) -> u64
         ensures { result ≡ self.now.client.seq }
     {
@@ -149,8 +233,8 @@ impl Client {
 
     /// Whether a call is open.
     pub fn is_busy(&self) -> bool
-        ensures { result ≡ is_some self.now.client.call }
+        ensures { result ≡ is_busy self.now.client }
     {
-        self.call.is_some()
+        self.call.is_some() || self.asking.is_some()
     }
 }

@@ -5,6 +5,7 @@
 //! fails where a call on it finds no memory; each later call that can answer `NoMemory` then does.
 #![tactic(auto)]
 
+mod answers;
 mod client;
 
 pub use client::{CallStop, Client, Heard};

@@ -1,14 +1,17 @@
 -- Which world the parts of a cluster stand for.
 use Rattle.std.specs.Prelude.{◌≡◌, ℕ, List, [], ◌∷◌, ◌++◌, length, drop, map, false, All, Option, None, Some}
+use Rattle.kr_order.specs.declared.ids.ClientId.{ClientId}
+use Rattle.kr_order.specs.declared.answer.ToldPart.{ToldPart}
 use Rattle.kr_order.specs.declared.history.Entry.{Entry}
 use Rattle.kr_order.specs.declared.history.DoneEntry.{DoneEntry}
 use Rattle.kr_order.specs.Done.{done_of}
 use Rattle.kr_world.specs.World.{World}
-use Rattle.kr_world.specs.Step.{Told, Outcome}
-use Rattle.kr_world.specs.Lines.{grown_line, told_lines, refused_line, packet_lines}
+use Rattle.kr_world.specs.Step.{Told, Part, Outcome, parts_to}
+use Rattle.kr_world.specs.Lines.{grown_line, told_lines, part_lines, refused_line, packet_lines}
 use Rattle.kr_world.specs.Sound.{IsSound}
 use Rattle.cluster_sim.specs.declared.parts.Parts.{Parts}
 use Rattle.cluster_sim.specs.declared.parts.Telling.{Telling}
+use Rattle.cluster_sim.specs.declared.parts.PartsTelling.{PartsTelling}
 use Rattle.cluster_sim.specs.declared.parts.Noted.{Noted}
 
 -- the history that a journal is of
@@ -30,16 +33,25 @@ abbrev pub told_in : Option Telling → List Told
 told_in None = []
 told_in (Some telling) = record { client = telling.client; reply = telling.reply } ∷ []
 
+-- a part that a client was told
+abbrev pub part_told : ClientId → ToldPart → Part
+part_told client part = record { client = client; part = part }
+
+abbrev pub parts_in : Option PartsTelling → List Part
+parts_in None = []
+parts_in (Some telling) = parts_to telling.client telling.parts
+
 -- the parts and what was noted are this outcome of a step, and the parts are whole
-pub record Makes (outcome : Outcome) (parts : Parts) (noted : Noted) : Type 0 where
-  pub after : world_of parts ≡ outcome.after
+pub record Makes (outcome : Outcome) (made : Parts) (noted : Noted) : Type 0 where
+  pub after : world_of made ≡ outcome.after
   pub told : told_in noted.told ≡ outcome.told
+  pub parts : parts_in noted.parts ≡ outcome.parts
   pub refused : noted.refused ≡ outcome.refused
-  pub servers : All (λ s. s.failed ≡ false) parts.servers.items
-  pub clients : All (λ c. c.failed ≡ false) parts.clients.items
-  pub journal : parts.journal ≡ done_of (history_of parts.journal)
+  pub servers : All (λ s. s.failed ≡ false) made.servers.items
+  pub clients : All (λ c. c.failed ≡ false) made.clients.items
+  pub journal : made.journal ≡ done_of (history_of made.journal)
 
 -- the lines of a step, where the history had this many entries before it, and the bag this many packets
 abbrev pub lines_of : ℕ → ℕ → Parts → Noted → List ℕ
 lines_of entries sent parts noted =
-    grown_line entries (length parts.journal) ++ told_lines (told_in noted.told) ++ refused_line noted.refused ++ packet_lines sent (drop sent parts.bag)
+    grown_line entries (length parts.journal) ++ told_lines (told_in noted.told) ++ part_lines (parts_in noted.parts) ++ refused_line noted.refused ++ packet_lines sent (drop sent parts.bag)

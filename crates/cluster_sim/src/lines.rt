@@ -1,14 +1,15 @@
 //! What is printed of a step, and of the history at the end.
 
 ghost use Rattle.std.specs.Prelude.{◌≡◌, ◌+◌, ◌^◌, ◌<◌, ◌≤◌, ◌++◌, [], ◌∷◌, length, drop, string_bytes, IfOk, OnOk};
-ghost use Rattle.kr_world.specs.Lines.{grown_line, told_line, told_lines, refused_line, packet_line, packet_lines, done_lines, end_lines};
+ghost use Rattle.kr_world.specs.Lines.{grown_line, told_line, told_lines, part_line, part_lines, refused_line, packet_line, packet_lines, done_lines, end_lines};
 ghost use Rattle.kr_order.specs.Text.{done_text};
 ghost use Rattle.script_lang.specs.Line.{line};
-ghost use Rattle.cluster_sim.specs.Parts.{told_in, history_of, lines_of};
+ghost use Rattle.cluster_sim.specs.Parts.{told_in, parts_in, part_told, history_of, lines_of};
+ghost use Rattle.kr_world.specs.Step.{parts_to};
 ghost use Rattle.kr_order.specs.Done.{done_of};
 
-use crate::parts::{Noted, Parts, Telling};
-use kr_order::{DoneEntry, Listed, NoMemory, Packet};
+use crate::parts::{Noted, Parts, PartsTelling, Telling};
+use kr_order::{ClientId, DoneEntry, Listed, NoMemory, Packet, ToldPart};
 use kr_world::Refusal;
 use std::alloc::Global;
 use std::fmt::Write;
@@ -36,6 +37,33 @@ fn put_told(out: &mut String, told: &Option<Telling>) -> Result<(), NoMemory>
         let place = telling.reply.placed.place;
         let reply = &telling.reply.placed.reply;
         writeln!(out, "told {client} {seq} at {place} {reply}")?;
+    }
+    Ok(())
+}
+
+// A client was told one pair of its query.
+fn put_part(out: &mut String, client: ClientId, part: &ToldPart) -> Result<(), NoMemory>
+    ensures { OnOk result (string_bytes out.new ≡ string_bytes out.old ++ part_line (part_told client part.now)) }
+{
+    writeln!(out, "part {client} {part}")?;
+    Ok(())
+}
+
+// A client was told pairs of its query.
+fn put_parts_of(out: &mut String, client: ClientId, parts: &[ToldPart]) -> Result<(), NoMemory>
+    ensures { OnOk result (string_bytes out.new ≡ string_bytes out.old ++ part_lines (parts_to client parts.now)) }
+{
+    for part in parts {
+        put_part(out, client, part)?;
+    }
+    Ok(())
+}
+
+fn put_parts(out: &mut String, parts: &Option<PartsTelling>) -> Result<(), NoMemory>
+    ensures { OnOk result (string_bytes out.new ≡ string_bytes out.old ++ part_lines (parts_in parts.now)) }
+{
+    if let Some(telling) = parts {
+        put_parts_of(out, telling.client, telling.parts.as_slice())?;
     }
     Ok(())
 }
@@ -104,6 +132,7 @@ pub fn step_lines(
     let mut out = String::new(alloc);
     put_grown(&mut out, entries, parts.journal.len())?;
     put_told(&mut out, &noted.told)?;
+    put_parts(&mut out, &noted.parts)?;
     put_refused(&mut out, noted.refused)?;
     let packets = parts.bag.as_slice().split_at(sent).1;
     put_packets(&mut out, sent, packets)?;

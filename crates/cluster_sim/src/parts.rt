@@ -23,20 +23,29 @@ pub struct Telling {
     pub reply: ToldReply,
 }
 
+/// Answers to pairs of its query that a client was told.
+#[derive(Debug, Drop)]
+pub struct PartsTelling {
+    pub client: ClientId,
+    pub parts: kr_order::Parts,
+}
+
 /// What a step did beside its change of the parts.
 #[derive(Debug, Drop)]
 pub struct Noted {
     pub told: Option<Telling>,
+    pub parts: Option<PartsTelling>,
     pub refused: Option<Refusal>,
 }
 
 impl Noted {
     /// Nothing was told, nothing refused.
     pub fn nothing() -> Self
-        ensures { result ≡ record { told = None; refused = None } }
+        ensures { result ≡ record { told = None; parts = None; refused = None } }
     {
         Noted {
             told: None,
+            parts: None,
             refused: None,
         }
     }

@@ -4,12 +4,12 @@ ghost use Rattle.std.specs.Prelude.{◌≡◌, ◌-◌, ◌<◌, ◌≤◌, leng
 ghost use Rattle.kr_order.specs.declared.message.Packet.{Packet};
 ghost use Rattle.script_lang.specs.Event.{IsEvent};
 ghost use Rattle.kr_world.specs.World.{client_at, server_at, packet_at};
-ghost use Rattle.kr_world.specs.Step.{refusal_of, call_refusal, deliver_refusal, is_full, act, step as world_step, told_to, client_calls, arrives_at_client, arrives_at_server, arrives, delivers};
+ghost use Rattle.kr_world.specs.Step.{refusal_of, call_refusal, query_refusal, work_refusal, deliver_refusal, is_full, act, step as world_step, told_to, client_calls, client_asks, works, arrives_at_client, arrives_at_server, arrives, delivers};
 ghost use Rattle.cluster_sim.specs.Parts.{world_of, IsWhole, Makes, told_in};
 
-use crate::parts::{Noted, Parts, Telling};
+use crate::parts::{Noted, Parts, PartsTelling, Telling};
 use client_session::CallStop;
-use kr_order::{ClientId, Command, Copied, NoMemory, Node, ServerId, ToldReply};
+use kr_order::{Asked, ClientId, Command, Copied, NoMemory, Node, ServerId, ToldReply};
 use kr_world::Refusal;
 use script_lang::Event;
 use std::alloc::Global;
@@ -40,6 +40,44 @@ fn call_refusal(parts: &Parts, client: ClientId) -> Option<Refusal>
     }
 }
 
+// Why a query of the client at the server is refused.
+fn query_refusal(parts: &Parts, client: ClientId, server: ServerId) -> Option<Refusal>
+    ensures { result ≡ query_refusal (world_of parts.now) (client_at (world_of parts.now) client) (server_at (world_of parts.now) server) }
+{
+    if parts
+        .clients
+        .get((client.0 as usize).saturating_sub(1))
+        .is_none()
+    {
+        Some(Refusal::NoSuchClient)
+    } else if parts
+        .servers
+        .get((server.0 as usize).saturating_sub(1))
+        .is_none()
+    {
+        Some(Refusal::NoSuchServer)
+    } else {
+        call_refusal(parts, client)
+    }
+}
+
+// Why the work of the server is refused.
+fn work_refusal(parts: &Parts, server: ServerId) -> Option<Refusal>
+    ensures { result ≡ work_refusal (world_of parts.now) (server_at (world_of parts.now) server) }
+{
+    if parts
+        .servers
+        .get((server.0 as usize).saturating_sub(1))
+        .is_none()
+    {
+        Some(Refusal::NoSuchServer)
+    } else if is_full(parts) {
+        Some(Refusal::BagFull)
+    } else {
+        None
+    }
+}
+
 // Why a delivery of packet k is refused.
 fn deliver_refusal(parts: &Parts, k: u64) -> Option<Refusal>
     ensures { result ≡ deliver_refusal (world_of parts.now) (packet_at (world_of parts.now) k) }
@@ -59,7 +97,9 @@ pub fn refusal(parts: &Parts, event: &Event) -> Option<Refusal>
 {
     match event {
         Event::Call { client, .. } => call_refusal(parts, *client),
+        Event::Query { client, server, .. } => query_refusal(parts, *client, *server),
         Event::Deliver(k) => deliver_refusal(parts, *k),
+        Event::Work { server, .. } => work_refusal(parts, *server),
     }
 }
 
@@ -85,6 +125,44 @@ fn call(
         Err(CallStop::Busy) => unreachable!(),
         Err(CallStop::NoMemory) => Err(NoMemory),
     }
+}
+
+// The client asks the server, and its question is put into the bag.
+fn ask(
+    parts: &mut Parts,
+    client: ClientId,
+    server: ServerId,
+    pairs: &Asked,
+) -> Result<Noted, NoMemory>
+    requires whole { IsWhole parts.old }
+    requires free { query_refusal (world_of parts.old) (client_at (world_of parts.old) client) (server_at (world_of parts.old) server) ≡ None }
+    ensures { IfOk result (Makes (client_asks (world_of parts.old) client server pairs.now (client_at (world_of parts.old) client)) parts.new) }
+{
+    let i = (client.0 as usize).saturating_sub(1);
+    let node = &mut parts.clients[i];
+    match node.ask(pairs, server) {
+        Ok(packet) => {
+            parts.bag.push(packet)?;
+            Ok(Noted::nothing())
+        }
+        Err(CallStop::Busy) => unreachable!(),
+        Err(CallStop::NoMemory) => Err(NoMemory),
+    }
+}
+
+// The server answers the queries that wait at it.
+fn work(parts: &mut Parts, server: ServerId) -> Result<Noted, NoMemory>
+    requires whole { IsWhole parts.old }
+    ensures { IfOk result (Makes (works (world_of parts.old) server (server_at (world_of parts.old) server)) parts.new) }
+{
+    let i = (server.0 as usize).saturating_sub(1);
+    if i >= parts.servers.len() {
+        return Ok(Noted::nothing());
+    }
+    let answered = parts.servers[i].work()?;
+    parts.bag.append(answered.packets)?;
+    parts.journal.append(answered.committed)?;
+    Ok(Noted::nothing())
 }
 
 // What the client is told, with its number.
@@ -113,6 +191,10 @@ fn arrive_at_client(parts: &mut Parts, client: ClientId, k: usize) -> Result<Not
     let heard = parts.clients[i].take(packet)?;
     Ok(Noted {
         told: telling(client, heard.told),
+        parts: Some(PartsTelling {
+            client,
+            parts: heard.parts,
+        }),
         refused: None,
     })
 }
@@ -160,7 +242,13 @@ fn act(alloc: Global, parts: &mut Parts, event: &Event) -> Result<Noted, NoMemor
 {
     match event {
         Event::Call { client, command } => call(alloc, parts, *client, command),
+        Event::Query {
+            client,
+            server,
+            pairs,
+        } => ask(parts, *client, *server, pairs),
         Event::Deliver(k) => deliver(parts, *k),
+        Event::Work { server, .. } => work(parts, *server),
     }
 }
 
@@ -172,6 +260,7 @@ pub fn step(alloc: Global, parts: &mut Parts, event: &Event) -> Result<Noted, No
     match refusal(parts, event) {
         Some(why) => Ok(Noted {
             told: None,
+            parts: None,
             refused: Some(why),
         }),
         None => act(alloc, parts, event),

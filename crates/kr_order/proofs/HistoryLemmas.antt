@@ -1,54 +1,88 @@
 -- How a history's births, references and done entries grow.
-use Rattle.std.proofs.Common.{eq-eqb, ◌≡◌, ℕ, ◌+◌, ◌<◌, ◌≤◌, Bool, true, false, cond, eqb, List, [], ◌∷◌, ◌++◌, length, refl, sym, ap, ◌∙◌, subst, arith, rules, append_assoc}
+use Rattle.std.proofs.Common.{eq-eqb, ◌≡◌, ℕ, ◌+◌, ◌<◌, ◌≤◌, Bool, true, false, cond, eqb, leb, ◌&&◌, List, [], ◌∷◌, ◌++◌, length, refl, sym, ap, ◌∙◌, subst, arith, rules, append_assoc}
 use Rattle.kr_order.specs.declared.ids.ClientId.{ClientId}
 use Rattle.kr_order.specs.declared.history.DoneEntry.{DoneEntry}
-use Rattle.std.specs.Prelude.{find, Option, Some, reverse, ◌↔◌}
-use Rattle.std.proofs.lemmas.Bool.Decides.{nat_tests}
-use Rattle.std.proofs.lemmas.List.Sums.{sum_by-append, sum_by-cons}
+use Rattle.std.specs.Prelude.{find, fold, Some, ◌↔◌}
+use Rattle.std.proofs.lemmas.Bool.{and_from, and_parts, le-leb, leb-true, lt-ltb, ltb-true}
+use Rattle.std.proofs.lemmas.Bool.Decides.{nat_tests, same_from_decides}
+use Rattle.std.proofs.lemmas.List.Sums.{fold-append, sum_by-append, sum_by-cons}
 use Rattle.std.proofs.lemmas.List.{reverse-append}
 use Rattle.kr_order.specs.declared.history.Entry.{Entry}
 use Rattle.kr_order.specs.declared.history.Command.{Command}
-use Rattle.kr_order.specs.declared.history.Command.TheVariants.{Create}
+use Rattle.kr_order.specs.declared.history.Command.TheVariants.{Create, Assign}
 use Rattle.kr_order.specs.History.{births_of, born_in}
 use Rattle.kr_order.specs.declared.history.Reply.{Reply}
-use Rattle.kr_order.specs.declared.history.Reply.TheVariants.{Created}
+use Rattle.kr_order.specs.declared.history.Reply.TheVariants.{Created, Assigned, Unknown, Contradicts}
 use Rattle.kr_order.specs.Reply.{reply_to}
 use Rattle.kr_order.specs.Laws.{CreatedEventIsNew}
-use Rattle.kr_order.specs.References.{count_after, count_by_newest, IsLive}
+use Rattle.kr_order.specs.Agreed.{Agreed, nothing_agreed, is_live, count_after, after, agreed_of}
+use Rattle.kr_order.specs.Front.{IsFrontOf}
+use Rattle.kr_order.specs.References.{count_in, IsLive}
 use Rattle.kr_order.specs.Done.{done_after, done_from, done_of, last_of}
 
 -- births of both parts are births of the whole
 pub born_in-append : (xs ys : List Entry) → born_in (xs ++ ys) ≡ born_in xs + born_in ys
 born_in-append xs ys = sum_by-append (λ entry. births_of entry.command) xs ys
 
--- births don't depend on the order of the entries
-pub born_in-reverse : (xs : List Entry) → born_in (reverse xs) ≡ born_in xs
-born_in-reverse [] = refl
-born_in-reverse (x ∷ xs) =
-    let turned : born_in (reverse (x ∷ xs)) ≡ born_in (reverse xs ++ x ∷ []) = ap born_in (reverse-append (x ∷ []) xs) in
-    omega (arith, born_in-append (reverse xs) (x ∷ []), born_in-append (x ∷ []) xs, born_in-reverse xs)
+-- what is agreed after one more entry
+pub agreed_of-push : (history : List Entry) (entry : Entry) → agreed_of (history ++ entry ∷ []) ≡ after (agreed_of history) entry
+agreed_of-push history entry = fold-append after nothing_agreed history (entry ∷ [])
+
+-- what every entry keeps is so after the history
+pub agreed_keeps : (P : Agreed → Type 0) → P nothing_agreed → ((agreed : Agreed) (entry : Entry) → P agreed → P (after agreed entry)) → (history : List Entry) → P (agreed_of history)
+agreed_keeps P none each history = from nothing_agreed history none
+  where
+    from : (agreed : Agreed) (history : List Entry) → P agreed → P (fold after agreed history)
+    from agreed [] holds = holds
+    from agreed (entry ∷ more) holds = from (after agreed entry) more (each agreed entry holds)
+
+born_from : (agreed : Agreed) (history : List Entry) → (fold after agreed history).born ≡ born_in history + agreed.born
+born_from agreed [] = omega arith
+born_from agreed (entry ∷ more) =
+    omega (arith, born_from (after agreed entry) more, sum_by-cons (λ e. births_of e.command) entry more)
+
+-- the events agreed are those that the history's creates made
+pub born-agreed : (history : List Entry) → (agreed_of history).born ≡ born_in history
+born-agreed history = omega (arith, born_from nothing_agreed history)
+
+-- the references of an event after one more entry
+pub count_in-push : (history : List Entry) (entry : Entry) (event : ℕ) → count_in (history ++ entry ∷ []) event ≡ count_after entry.command (born_in history) event (count_in history event)
+count_in-push history entry event =
+    ap (λ (agreed : Agreed). agreed.count event) (agreed_of-push history entry) ∙ ap (λ born. count_after entry.command born event (count_in history event)) (born-agreed history)
 
 -- a fact that holds exactly for the events up to a number
 abbrev pub IsUpTo : ℕ → ℕ → Type 0
 IsUpTo event born = (1 ≤ event) × (event ≤ born)
 
 -- a command's events come after those born before it
-count_after-live : (command : Command) (born event count : ℕ) → (0 < count) ↔ IsUpTo event born → (0 < count_after command born event count) ↔ IsUpTo event (births_of command + born)
+pub count_after-live : (command : Command) (born event count : ℕ) → (0 < count) ↔ IsUpTo event born → (0 < count_after command born event count) ↔ IsUpTo event (births_of command + born)
 count_after-live Create born event count known = by_test (eqb event (born + 1)) refl
   where
     by_test : (test : Bool) → eqb event (born + 1) ≡ test → (0 < cond test 1 count) ↔ IsUpTo event (1 + born)
     by_test true is = (λ _. grind (arith, nat_tests), λ _. omega arith)
     by_test false is = (λ h. let u = known.0 h in grind (arith, nat_tests), λ u. known.1 (grind (arith, nat_tests)))
-
-count_by_newest-live : (newest : List Entry) (event : ℕ) → (0 < count_by_newest newest event) ↔ IsUpTo event (born_in newest)
-count_by_newest-live [] event = (λ h. absurd (omega arith), λ u. absurd (omega arith))
-count_by_newest-live (entry ∷ earlier) event =
-    subst (λ born. (0 < count_by_newest (entry ∷ earlier) event) ↔ IsUpTo event born) (sym (sum_by-cons (λ e. births_of e.command) entry earlier)) (count_after-live entry.command (born_in earlier) event (count_by_newest earlier event) (count_by_newest-live earlier event))
+count_after-live (Assign batch) born event count known = (λ h. let u = known.0 h in (u.0, omega arith), λ u. known.1 (u.0, omega arith))
 
 -- the live events are those that were made
 pub live-born : (history : List Entry) (event : ℕ) → IsLive history event ↔ IsUpTo event (born_in history)
 live-born history event =
-    subst (λ born. IsLive history event ↔ IsUpTo event born) (born_in-reverse history) (count_by_newest-live (reverse history) event)
+    subst (λ born. IsLive history event ↔ IsUpTo event born) (born-agreed history) (agreed_keeps (λ agreed. (0 < agreed.count event) ↔ IsUpTo event agreed.born) none (λ agreed entry known. count_after-live entry.command agreed.born event (agreed.count event) known) history)
+  where
+    none : (0 < 0) ↔ IsUpTo event 0
+    none = (λ h. absurd (omega arith), λ u. absurd (omega arith))
+
+-- the test for a live event
+pub is_live-true : (history : List Entry) (event : ℕ) → (is_live (agreed_of history) event ≡ true) ↔ IsLive history event
+is_live-true history event = (λ is. ltb-true 0 (count_in history event) is, λ live. lt-ltb 0 (count_in history event) live)
+
+-- the test is one on the number of events made
+pub is_live-born : (history : List Entry) (event : ℕ) → is_live (agreed_of history) event ≡ (leb 1 event && leb event (born_in history))
+is_live-born history event =
+    same_from_decides {P = IsUpTo event (born_in history)} (is_live (agreed_of history) event) (leb 1 event && leb event (born_in history)) (λ is. (live-born history event).0 ((is_live-true history event).0 is), λ made. (is_live-true history event).1 ((live-born history event).1 made)) (λ is. let both = and_parts (leb 1 event) (leb event (born_in history)) is in (leb-true 1 event both.0, leb-true event (born_in history) both.1), λ made. and_from (leb 1 event) (leb event (born_in history)) (le-leb 1 event made.0) (le-leb event (born_in history) made.1))
+
+-- a longer history has made at least as many events
+pub born_in_grows : (history longer : List Entry) → IsFrontOf history longer → born_in history ≤ born_in longer
+born_in_grows history longer front = omega (arith, ap born_in front.is, born_in-append history front.more)
 
 -- done entries of both parts are those of the whole
 pub done_from-append : (before xs ys : List Entry) → done_from before (xs ++ ys) ≡ done_from before xs ++ done_from (before ++ xs) ys
@@ -60,15 +94,25 @@ done_from-append before (x ∷ xs) ys =
 pub done_of-push : (history : List Entry) (entry : Entry) → done_of (history ++ entry ∷ []) ≡ done_of history ++ done_after history entry ∷ []
 done_of-push history entry = done_from-append [] history (entry ∷ [])
 
+-- the done entries of a history are the first of those of a longer one
+pub IsFrontOf-done_of : (history longer : List Entry) → IsFrontOf history longer → IsFrontOf (done_of history) (done_of longer)
+IsFrontOf-done_of history longer front =
+    record { more = done_from history front.more; is = ap done_of front.is ∙ done_from-append [] history front.more }
+
+-- each entry is done once
 pub length-done_from : (before xs : List Entry) → length (done_from before xs) ≡ length xs
 length-done_from before [] = refl
 length-done_from before (x ∷ xs) = omega (arith, length-done_from (before ++ x ∷ []) xs)
 
 abbrev created_id : Reply → ℕ
 created_id (Created event) = event.0
+created_id (Assigned outcomes) = 0
+created_id (Unknown index) = 0
+created_id (Contradicts index) = 0
 
 created-is : (history : List Entry) (command : Command) (event : ℕ) → command ≡ Create → reply_to history command ≡ Created (record { 0 = event }) → event ≡ born_in history + births_of command
 created-is history Create event _ is = sym (ap created_id is)
+created-is history (Assign batch) event create _ = cc
 
 -- a create's event is the next one
 pub created-new : CreatedEventIsNew

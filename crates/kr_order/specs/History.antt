@@ -1,12 +1,13 @@
 -- A history is the list of the commands that the service has taken, in one order. The entry at index 0 has place 1.
 use Rattle.std.specs.Prelude.{ℕ, List, sum_by}
 use Rattle.kr_order.specs.declared.history.Command.{Command}
-use Rattle.kr_order.specs.declared.history.Command.TheVariants.{Create}
+use Rattle.kr_order.specs.declared.history.Command.TheVariants.{Create, Assign}
 use Rattle.kr_order.specs.declared.history.Entry.{Entry}
 
 -- how many events the command makes
 abbrev pub births_of : Command → ℕ
 births_of Create = 1
+births_of (Assign batch) = 0
 
 -- how many events the history has made: event k is the one of its k-th create
 abbrev pub born_in : List Entry → ℕ

@@ -1,6 +1,13 @@
+pub mod Front
+pub mod Order
+pub mod Batch
 pub mod History
+pub mod Agreed
 pub mod References
+pub mod Pairs
 pub mod Reply
+pub mod Answer
 pub mod Done
 pub mod Text
 pub mod Laws
+pub mod Rows

@@ -1,6 +1,6 @@
 //! Commands, the entries of a history, and what their callers are told.
 
-use crate::{ClientId, Copied, EventId, NoMemory};
+use crate::{Batch, ClientId, Copied, EventId, NoMemory, Outcomes};
 use std::alloc::Global;
 
 /// What a client asks of the service, to be done at one place of the history.
@@ -8,6 +8,9 @@ use std::alloc::Global;
 pub enum Command {
     /// Makes the next event.
     Create,
+    /// Assigns the pairs of a batch to the order. Where one of them names an event that is not live, or a must
+    /// contradicts the order, nothing is changed.
+    Assign(Batch),
 }
 
 /// One client's command in a history.
@@ -24,6 +27,12 @@ pub struct Entry {
 pub enum Reply {
     /// The event that was made.
     Created(EventId),
+    /// What became of each pair, in the order of the batch.
+    Assigned(Outcomes),
+    /// The index, from 0, of the first pair that names an event that is not live. Nothing was changed.
+    Unknown(u32),
+    /// The index, from 0 in the whole batch, of the first must that contradicts the order. Nothing was changed.
+    Contradicts(u32),
 }
 
 /// A reply, with the place of its entry in the history, from 1.
@@ -52,6 +61,7 @@ impl Copied for Command {
     fn copy(&self, _alloc: Global) -> Result<Self, NoMemory> {
         match self {
             Command::Create => Ok(Command::Create),
+            Command::Assign(batch) => Ok(Command::Assign(batch.copy()?)),
         }
     }
 }
@@ -70,6 +80,9 @@ impl Copied for Reply {
     fn copy(&self, _alloc: Global) -> Result<Self, NoMemory> {
         match self {
             Reply::Created(id) => Ok(Reply::Created(*id)),
+            Reply::Assigned(outcomes) => Ok(Reply::Assigned(outcomes.copy()?)),
+            Reply::Unknown(index) => Ok(Reply::Unknown(*index)),
+            Reply::Contradicts(index) => Ok(Reply::Contradicts(*index)),
         }
     }
 }

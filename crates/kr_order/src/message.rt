@@ -1,6 +1,6 @@
 //! The parties to the protocol, and the packets that they send.
 
-use crate::{ClientId, Command, Copied, NoMemory, Placed, ServerId};
+use crate::{Asked, ClientId, Command, Copied, NoMemory, Placed, ServerId, Told};
 use std::alloc::Global;
 
 /// A party to the protocol.
@@ -18,6 +18,11 @@ pub enum Message {
     Request { seq: u64, command: Command },
     /// A server tells a client the reply of its command of this sequence number.
     Replied { seq: u64, placed: Placed },
+    /// A client asks a server about pairs of events. `q` is the number of its query, from 1; `part` is 1 for
+    /// the query as it was asked, and 2 for the pairs of it that are asked again.
+    Ask { q: u64, part: u8, pairs: Asked },
+    /// A server tells a client the answers to this part of its query.
+    Answered { q: u64, part: u8, told: Told },
 }
 
 /// A message with its sender and its addressee.
@@ -38,6 +43,16 @@ impl Copied for Message {
             Message::Replied { seq, placed } => Ok(Message::Replied {
                 seq: *seq,
                 placed: placed.copy(alloc)?,
+            }),
+            Message::Ask { q, part, pairs } => Ok(Message::Ask {
+                q: *q,
+                part: *part,
+                pairs: pairs.copy()?,
+            }),
+            Message::Answered { q, part, told } => Ok(Message::Answered {
+                q: *q,
+                part: *part,
+                told: told.copy(alloc)?,
             }),
         }
     }

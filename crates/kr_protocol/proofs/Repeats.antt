@@ -1,18 +1,19 @@
 -- A packet that comes again leaves the server as it is.
-use Rattle.std.proofs.Common.{◌≡◌, ◌<◌, ℕ, Bool, true, false, cond, eqb, ltb, ◌∷◌, ◌++◌, [], refl, ap, ◌∙◌, subst, sym, arith, rules, eq-eqb}
+use Rattle.std.proofs.Common.{leb, List, length, ◌≡◌, ℕ, Bool, true, false, eqb, ltb, refl, ap, ◌∙◌, eq-eqb}
 use Rattle.std.specs.Prelude.{Option, None, Some}
 use Rattle.std.proofs.lemmas.Bool.{eqb-true}
-use Rattle.kr_order.specs.declared.ids.ClientId.{ClientId}
 use Rattle.kr_order.specs.declared.history.Command.{Command}
 use Rattle.kr_order.specs.declared.history.Entry.{Entry}
 use Rattle.kr_order.specs.declared.history.DoneEntry.{DoneEntry}
 use Rattle.kr_order.specs.declared.message.Node as nodes
 use Rattle.kr_order.specs.declared.message.Node.TheVariants.{Manager, Client, Server as FromServer}
 use Rattle.kr_order.specs.declared.message.Message.{Message}
-use Rattle.kr_order.specs.declared.message.Message.TheVariants.{Request, Replied}
+use Rattle.kr_order.specs.declared.message.Message.TheVariants.{Request, Replied, Ask, Answered}
+use Rattle.kr_order.specs.declared.ids.EventId.{EventId}
+use Rattle.kr_order.specs.declared.answer.Query.{Query}
 use Rattle.kr_order.specs.Done.{done_after, done_of, last_of}
 use Rattle.kr_order.proofs.HistoryLemmas.{last_of-own}
-use Rattle.kr_protocol.specs.Server.{Server, requested, enters, after_request, request_from, message_from}
+use Rattle.kr_protocol.specs.Server.{Server, requested, enters, request_from, message_from, most_waiting, after_ask, ask_from}
 use Rattle.kr_protocol.specs.Laws.{RepeatsChangeNothing}
 
 -- the last applied entry is this one, so it is only replied again
@@ -39,12 +40,26 @@ request-again server entry (Some last) is = old-again server entry last (eqb las
 
 from-again : (server : Server) (from : nodes.Node) (seq : ℕ) (command : Command) → (request_from (request_from server from seq command).after from seq command).after ≡ (request_from server from seq command).after
 from-again server Manager seq command = refl
-from-again server (Client client) seq command = request-again server (record { client = client; seq = seq; command = command }) (last_of client (done_of server.log)) refl
+from-again server (Client client) seq command =
+    request-again server (record { client = client; seq = seq; command = command }) (last_of client (done_of server.log)) refl
 from-again server (FromServer other) seq command = refl
 
-message-again : (server : Server) (from : nodes.Node) (message : Message) → (message_from (message_from server from message).after from message).after ≡ (message_from server from message).after
-message-again server from (Request seq command) = from-again server from seq command
+-- a query that comes in leaves the log as it is
+ask-keeps : (server : Server) (query : Query) (full : Bool) → leb most_waiting (length server.waiting) ≡ full → (after_ask server query).after.log ≡ server.log
+ask-keeps server query true is = rw is refl
+ask-keeps server query false is = rw is refl
+
+ask-from-keeps : (server : Server) (from : nodes.Node) (q part : ℕ) (pairs : List (EventId × EventId)) → (ask_from server from q part pairs).after.log ≡ server.log
+ask-from-keeps server Manager q part pairs = refl
+ask-from-keeps server (Client client) q part pairs =
+    ask-keeps server (record { client = client; q = q; part = part; pairs = pairs }) (leb most_waiting (length server.waiting)) refl
+ask-from-keeps server (FromServer other) q part pairs = refl
+
+message-again : (server : Server) (from : nodes.Node) (message : Message) → (message_from (message_from server from message).after from message).after.log ≡ (message_from server from message).after.log
+message-again server from (Request seq command) = ap (λ (s : Server). s.log) (from-again server from seq command)
 message-again server from (Replied seq placed) = refl
+message-again server from (Ask q part pairs) = ask-from-keeps (ask_from server from q part pairs).after from q part pairs
+message-again server from (Answered q part told) = refl
 
 pub again : RepeatsChangeNothing
 again server packet = message-again server packet.from packet.message

@@ -2,7 +2,7 @@
 
 ghost use Rattle.kr_protocol.specs.Laws.{RepeatsChangeNothing};
 
-/// A packet that a server takes a second time leaves it as it is: a retried or repeated request gets no
+/// A packet that a server takes a second time leaves its log as it is: a retried or repeated request gets no
 /// second place.
 pub fn repeats_change_nothing()
     ensures { RepeatsChangeNothing }

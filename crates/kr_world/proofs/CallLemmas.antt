@@ -7,17 +7,19 @@ use Rattle.std.proofs.lemmas.List.Elements.{All-nil, All-cons, All-append}
 use Rattle.std.proofs.lemmas.Option.{none-some}
 use Rattle.kr_order.specs.declared.ids.ClientId.{ClientId}
 use Rattle.kr_order.specs.declared.history.Command.{Command}
+use Rattle.kr_order.proofs.FrontLemmas.{IsFrontOf-refl}
 use Rattle.kr_protocol.specs.Client.{Client, begins}
 use Rattle.script_lang.specs.declared.script.Event.TheVariants.{Call}
 use Rattle.kr_world.specs.World.{World, client_at}
 use Rattle.kr_world.specs.Step.{Outcome, client_sends}
 use Rattle.kr_world.specs.Run.{Turn}
 use Rattle.kr_world.specs.Lawful.{IsToldTruly, begins_by, begun_by, entries_of, seen_by}
-use Rattle.kr_world.specs.Facts.{HasBegun, IsTruePacket, IsTrueClient, AreFacts}
+use Rattle.kr_world.specs.Facts.{HasBegun, IsTruePacket, IsToldPart, IsTrueClient, AreFacts}
 use Rattle.kr_world.proofs.ListFacts.{slice_get_at, each_after_set}
-use Rattle.kr_world.proofs.PastLemmas.{begun_by-push, front_itself}
-use Rattle.kr_world.proofs.PacketLemmas.{same_client, packets_later}
-use Rattle.kr_world.proofs.KeepLemmas.{turn_of, Keeps, begun_same, seen_same, numbered_later, client_later}
+use Rattle.kr_world.proofs.PastLemmas.{begun_by-push, begun_same, asked_same, seen_same}
+use Rattle.kr_world.proofs.PacketLemmas.{same_client, packets_later, servers_later}
+use Rattle.kr_world.proofs.KeepLemmas.{turn_of, Keeps, fresh_more, numbered_later, client_later}
+use Rattle.kr_world.proofs.FreshLemmas.{request_fresh}
 
 -- the caller has begun one command more
 begun_own : (past : List Turn) (world : World) (caller other : ClientId) (command : Command) (outcome : Outcome) → outcome.refused ≡ None → caller.0 ≡ other.0 → begun_by other (past ++ turn_of world (Call caller command) outcome ∷ []) ≡ begun_by other past ++ command ∷ []
@@ -29,8 +31,8 @@ others_begin : (caller other : ClientId) (command : Command) → caller.0 ≢ ot
 others_begin caller other command different = cond-false (eqb caller.0 other.0) (command ∷ []) [] (ne_eqb caller.0 other.0 different)
 
 -- the client with its open call
-caller_later : (past : List Turn) (world : World) (caller : ClientId) (command : Command) (i : ℕ) (client : Client) → caller.0 ≡ client.id.0 → IsTrueClient past world.history i client → IsTrueClient (past ++ turn_of world (Call caller command) (client_sends world caller (begins client command)) ∷ []) world.history i (begins client command).after
-caller_later past world caller command i client same known =
+caller_later : (past : List Turn) (world : World) (caller : ClientId) (command : Command) (i : ℕ) (client : Client) → caller.0 ≡ client.id.0 → client.asking ≡ None → IsTrueClient past world.history world.bag i client → IsTrueClient (past ++ turn_of world (Call caller command) (client_sends world caller (begins client command)) ∷ []) world.history (world.bag ++ (begins client command).sent) i (begins client command).after
+caller_later past world caller command i client same free known =
     let outcome = client_sends world caller (begins client command) in
     let turn = turn_of world (Call caller command) outcome in
     let begun = begun_own past world caller client.id command outcome refl same in
@@ -43,10 +45,12 @@ caller_later past world caller command i client same known =
       seen = known.seen ∙ sym (seen_same client.id past turn refl);
       within = known.within;
       old = omega arith;
+      q = known.q ∙ sym (ap length (asked_same client.id past turn refl));
+      query = λ pairs is. absurd (none-some pairs (sym free ∙ is));
     }
 
-pub call_keeps : (past : List Turn) (world : World) (caller : ClientId) (command : Command) (client : Client) → 1 ≤ caller.0 → client_at world caller ≡ Some client → client.call ≡ None → AreFacts past world → Keeps past (turn_of world (Call caller command) (client_sends world caller (begins client command)))
-call_keeps past world caller command client low is idle facts =
+pub call_keeps : (past : List Turn) (world : World) (caller : ClientId) (command : Command) (client : Client) → 1 ≤ caller.0 → client_at world caller ≡ Some client → client.call ≡ None → client.asking ≡ None → AreFacts past world → Keeps past (turn_of world (Call caller command) (client_sends world caller (begins client command)))
+call_keeps past world caller command client low is idle free facts =
     let outcome = client_sends world caller (begins client command) in
     let turn = turn_of world (Call caller command) outcome in
     let later = past ++ turn ∷ [] in
@@ -65,7 +69,7 @@ call_keeps past world caller command client low is idle facts =
     } in
     record {
       facts = record {
-        packets = All-append (IsTruePacket later history) world.bag sent (packets_later past (turn ∷ []) history history world.bag (front_itself history) facts.packets) (All-cons (IsTruePacket later history) _ [] request (All-nil (IsTruePacket later history)));
+        packets = All-append (IsTruePacket later history) world.bag sent (packets_later past (turn ∷ []) history history world.bag (IsFrontOf-refl history) facts.packets) (All-cons (IsTruePacket later history) _ [] request (All-nil (IsTruePacket later history)));
         in_step = record {
           numbered = λ other. numbered_later other past turn (entries_of other history) (facts.in_step.numbered other);
           one_open = λ other. elim (cases_eq caller.0 other.0) [
@@ -77,12 +81,14 @@ call_keeps past world caller command client low is idle facts =
                 omega (arith, ap length (begun_same other past turn (others_begin caller other command different)))
           ];
         };
-        clients = each_after_set (IsTrueClient later history) world.clients (caller.0 - 1) (begins client command).after (caller_later past world caller command (caller.0 - 1) client same known) (λ j other different found.
+        clients = each_after_set (IsTrueClient later history (world.bag ++ sent)) world.clients (caller.0 - 1) (begins client command).after (caller_later past world caller command (caller.0 - 1) client same free known) (λ j other different found.
             let its = facts.clients j other found in
             let its_id = its.id in
             let apart : caller.0 ≢ other.id.0 = omega arith in
-            client_later past turn history history j other (others_begin caller other.id command apart) refl (front_itself history) (facts.in_step.numbered other.id) its);
+            client_later past turn history history world.bag (world.bag ++ sent) j other (record { commands = others_begin caller other.id command apart; queries = refl; told = refl }) (IsFrontOf-refl history) (facts.in_step.numbered other.id) (fresh_more history world.bag sent (λ id q seen le. request_fresh id q seen _ _ (client.seq + 1) command)) its);
+        servers = servers_later past (turn ∷ []) world.servers facts.servers;
       };
-      grows = front_itself history;
+      grows = IsFrontOf-refl history;
       told = All-nil (λ told. IsToldTruly history (seen_by told.client past) told);
+      parts = All-nil (λ part. IsToldPart history (seen_by part.client past) part.part);
     }

@@ -1,53 +1,67 @@
 -- Every step keeps the facts, so every run is lawful.
-use Rattle.std.proofs.Common.{zero, suc, ◌≡◌, ℕ, ◌-◌, ◌≤◌, List, [], ◌∷◌, ◌++◌, take, refl, sym, ◌∙◌, subst, arith}
+use Rattle.std.proofs.Common.{zero, suc, ◌≡◌, ℕ, ◌-◌, ◌≤◌, List, [], ◌∷◌, ◌++◌, length, take, refl, sym, ◌∙◌, subst, arith}
 use Rattle.std.specs.Prelude.{Option, None, Some, slice_get, All}
 use Rattle.std.proofs.lemmas.List.{append-nil, append_assoc}
-use Rattle.std.proofs.lemmas.List.Elements.{All-nil, All-head, All-tail}
+use Rattle.std.proofs.lemmas.List.Elements.{All-nil, All-cons, All-head, All-tail, All-weaker}
 use Rattle.std.proofs.lemmas.Option.{none-some, same_Some}
 use Rattle.kr_order.specs.declared.ids.ClientId.{ClientId}
+use Rattle.kr_order.specs.declared.ids.ServerId.{ServerId}
+use Rattle.kr_order.specs.declared.ids.EventId.{EventId}
 use Rattle.kr_order.specs.declared.history.Command.{Command}
 use Rattle.kr_order.specs.declared.message.Node as nodes
 use Rattle.kr_order.specs.declared.message.Node.TheVariants.{Manager, Client as AtClient, Server as AtServer}
 use Rattle.kr_order.specs.declared.message.Packet.{Packet}
+use Rattle.kr_order.specs.Front.{IsFrontOf}
+use Rattle.kr_order.proofs.FrontLemmas.{IsFrontOf-refl, IsFrontOf-trans}
+use Rattle.kr_order.proofs.PairsLemmas.{order_acyclic}
 use Rattle.kr_protocol.specs.Client.{Client, new_client}
 use Rattle.script_lang.specs.declared.script.Event.{Event}
-use Rattle.script_lang.specs.declared.script.Event.TheVariants.{Call, Deliver}
+use Rattle.script_lang.specs.declared.script.Event.TheVariants.{Call, Query, Work, Deliver}
 use Rattle.script_lang.specs.Event.{IsEvent}
 use Rattle.kr_world.specs.declared.refusal.Refusal.{Refusal}
 use Rattle.kr_world.specs.World.{World, first_world, client_at, server_at, packet_at}
-use Rattle.kr_world.specs.Step.{call_refusal, client_calls, arrives, delivers, act, refusal_of, unless, step}
+use Rattle.kr_world.specs.Step.{call_refusal, query_refusal, client_calls, client_asks, arrives, delivers, act, refusal_of, unless, step}
 use Rattle.kr_world.specs.Run.{Turn, run_from, run_of}
 use Rattle.kr_world.specs.Sound.{IsSound}
-use Rattle.kr_world.specs.Lawful.{IsFrontOf, IsNumbered, RunsAreLawful, begun_by, entries_of, history_after}
-use Rattle.kr_world.specs.Facts.{IsTrueMessage, IsTruePacket, IsTrueClient, AreFacts}
-use Rattle.kr_world.proofs.StepLemmas.{at_index, idle_client}
+use Rattle.kr_world.specs.Lawful.{IsNumbered, IsPartTrue, RunsAreLawful, begun_by, entries_of, seen_by, history_after}
+use Rattle.kr_world.specs.Facts.{IsTrueQuery, IsTrueServer, IsTrueMessage, IsTruePacket, IsToldPart, IsTrueClient, AreFacts}
+use Rattle.kr_world.proofs.StepLemmas.{at_index, idle_client, may_ask, no_call, no_query}
 use Rattle.kr_world.proofs.SoundLemmas.{worlds_sound}
 use Rattle.kr_world.proofs.ListFacts.{take_with}
-use Rattle.kr_world.proofs.PastLemmas.{front_itself, front_of_front}
+use Rattle.kr_world.proofs.PartLemmas.{IsPassedOn, part_true}
+use Rattle.kr_world.proofs.AskLemmas.{ask_keeps}
 use Rattle.kr_world.proofs.KeepLemmas.{turn_of, Keeps, refused_keeps, quiet_keeps}
 use Rattle.kr_world.proofs.CallLemmas.{call_keeps}
 use Rattle.kr_world.proofs.HearLemmas.{client_keeps}
-use Rattle.kr_world.proofs.ServerLemmas.{server_keeps}
+use Rattle.kr_world.proofs.ServerLemmas.{server_keeps, work_keeps}
 
 calls_keep : (past : List Turn) (world : World) (caller : ClientId) (command : Command) (found : Option Client) → 1 ≤ caller.0 → client_at world caller ≡ found → call_refusal world found ≡ None → AreFacts past world → Keeps past (turn_of world (Call caller command) (client_calls world caller command found))
 calls_keep past world caller command None low is none facts = absurd (none-some _ (sym none))
 calls_keep past world caller command (Some client) low is none facts =
     let free = idle_client world client none in
-    call_keeps past world caller command client low is free.idle facts
+    call_keeps past world caller command client low is (no_call client free.idle) (no_query client free.idle) facts
 
-arrives_keeps : (past : List Turn) (world : World) (k : ℕ) (to : nodes.Node) (packet : Packet) → packet.to ≡ to → IsSound world → IsTruePacket past world.history packet → AreFacts past world → Keeps past (turn_of world (Deliver k) (arrives world to packet))
-arrives_keeps past world k Manager packet to sound said facts = quiet_keeps past world k facts
-arrives_keeps past world k (AtClient client) packet to sound said facts =
-    client_keeps past world k client packet (client_at world client) refl (subst (λ node. IsTrueMessage past world.history packet.from node packet.message) to said) facts
-arrives_keeps past world k (AtServer server) packet to sound said facts = server_keeps past world k server packet (server_at world server) refl sound said facts
+queries_keep : (past : List Turn) (world : World) (caller : ClientId) (server : ServerId) (pairs : List (EventId × EventId)) → 1 ≤ caller.0 → 1 ≤ length pairs → query_refusal world (client_at world caller) (server_at world server) ≡ None → AreFacts past world → Keeps past (turn_of world (Query caller server pairs) (client_asks world caller server pairs (client_at world caller)))
+queries_keep past world caller server pairs low some none facts =
+    let may = may_ask world (client_at world caller) (server_at world server) none in
+    let free = idle_client world may.client may.may_call in
+    subst (λ found. Keeps past (turn_of world (Query caller server pairs) (client_asks world caller server pairs found))) (sym may.client_is) (ask_keeps past world caller server pairs may.client low some may.client_is (no_call may.client free.idle) facts)
+
+arrives_keeps : (past : List Turn) (world : World) (k : ℕ) (to : nodes.Node) (packet : Packet) → packet.to ≡ to → packet_at world k ≡ Some packet → IsSound world → IsTruePacket past world.history packet → AreFacts past world → Keeps past (turn_of world (Deliver k) (arrives world to packet))
+arrives_keeps past world k Manager packet to at sound said facts = quiet_keeps past world k facts
+arrives_keeps past world k (AtClient client) packet to at sound said facts =
+    client_keeps past world k client packet (client_at world client) refl at to (subst (λ node. IsTrueMessage past world.history packet.from node packet.message) to said) facts
+arrives_keeps past world k (AtServer server) packet to at sound said facts = server_keeps past world k server packet (server_at world server) refl sound said facts
 
 delivers_keeps : (past : List Turn) (world : World) (k : ℕ) (found : Option Packet) → packet_at world k ≡ found → IsSound world → AreFacts past world → Keeps past (turn_of world (Deliver k) (delivers world found))
 delivers_keeps past world k None is sound facts = quiet_keeps past world k facts
 delivers_keeps past world k (Some packet) is sound facts =
-    arrives_keeps past world k packet.to packet refl sound (at_index (IsTruePacket past world.history) world.bag (k - 1) packet facts.packets is) facts
+    arrives_keeps past world k packet.to packet refl is sound (at_index (IsTruePacket past world.history) world.bag (k - 1) packet facts.packets is) facts
 
 act_keeps : (past : List Turn) (world : World) (event : Event) → refusal_of world event ≡ None → IsEvent event → IsSound world → AreFacts past world → Keeps past (turn_of world event (act world event))
-act_keeps past world (Call client command) none fit sound facts = calls_keep past world client command (client_at world client) fit.low refl none facts
+act_keeps past world (Call client command) none fit sound facts = calls_keep past world client command (client_at world client) fit.client_fits.low refl none facts
+act_keeps past world (Query client server pairs) none fit sound facts = queries_keep past world client server pairs fit.client_fits.low fit.some none facts
+act_keeps past world (Work server workers) none fit sound facts = work_keeps past world server workers (server_at world server) refl none sound facts
 act_keeps past world (Deliver k) none fit sound facts = delivers_keeps past world k (packet_at world k) refl sound facts
 
 step_cases : (past : List Turn) (world : World) (event : Event) (refusal : Option Refusal) → refusal_of world event ≡ refusal → IsEvent event → IsSound world → AreFacts past world → Keeps past (turn_of world event (unless world refusal (act world event)))
@@ -83,14 +97,14 @@ grows_from past world (event ∷ events) fit sound facts (suc j) later is =
     let first = turn_of world event (step world event) in
     let kept = step_keeps past world event (All-head IsEvent event events fit) sound facts in
     let after = (step world event).after in
-    front_of_front world.history after.history (history_after later) kept.grows (grows_from (past ++ first ∷ []) after events (All-tail IsEvent event events fit) (worlds_sound.later world event sound) kept.facts j later is)
+    IsFrontOf-trans world.history after.history (history_after later) kept.grows (grows_from (past ++ first ∷ []) after events (All-tail IsEvent event events fit) (worlds_sound.later world event sound) kept.facts j later is)
 
 -- and from each step on
 run_grows : (past : List Turn) (world : World) (events : List Event) → All IsEvent events → IsSound world → AreFacts past world → (i j : ℕ) (earlier later : Turn) → i ≤ j → slice_get (run_from world events) i ≡ Some earlier → slice_get (run_from world events) j ≡ Some later → IsFrontOf (history_after earlier) (history_after later)
 run_grows past world [] fit sound facts i j earlier later le is is' = absurd (none-some earlier is)
 run_grows past world (event ∷ events) fit sound facts zero zero earlier later le is is' =
     let same : earlier ≡ later = same_Some earlier later (sym is ∙ is') in
-    subst (λ t. IsFrontOf (history_after earlier) (history_after t)) same (front_itself (history_after earlier))
+    subst (λ t. IsFrontOf (history_after earlier) (history_after t)) same (IsFrontOf-refl (history_after earlier))
 run_grows past world (event ∷ events) fit sound facts zero (suc j) earlier later le is is' =
     let first = turn_of world event (step world event) in
     let kept = step_keeps past world event (All-head IsEvent event events fit) sound facts in
@@ -102,9 +116,9 @@ run_grows past world (event ∷ events) fit sound facts (suc i) (suc j) earlier 
     run_grows (past ++ first ∷ []) (step world event).after events (All-tail IsEvent event events fit) (worlds_sound.later world event sound) kept.facts i j earlier later (omega arith) is is'
 
 -- before the first step
-first_client : (i : ℕ) (client : Client) → slice_get first_world.clients i ≡ Some client → IsTrueClient [] [] i client
+first_client : (i : ℕ) (client : Client) → slice_get first_world.clients i ≡ Some client → IsTrueClient [] [] [] i client
 first_client zero client is =
-    subst (λ c. IsTrueClient [] [] 0 c) (same_Some (new_client (record { 0 = 1 })) client is) (record { id = refl; seq = refl; idle = λ none. refl; seen = refl; within = omega arith; old = omega arith })
+    subst (λ c. IsTrueClient [] [] [] 0 c) (same_Some (new_client (record { 0 = 1 })) client is) (record { id = refl; seq = refl; idle = λ none. refl; seen = refl; within = omega arith; old = omega arith; q = refl; query = λ pairs asking. absurd (none-some pairs asking) })
 first_client (suc i) client is = absurd (none-some client is)
 
 first_facts : AreFacts [] first_world
@@ -113,16 +127,20 @@ first_facts =
       packets = All-nil (IsTruePacket [] []);
       in_step = record { numbered = λ caller k entry is. absurd (none-some entry is); one_open = λ caller. omega arith };
       clients = first_client;
+      servers = All-cons (IsTrueServer []) _ [] (All-nil (IsTrueQuery [])) (All-nil (IsTrueServer []));
     }
 
 pub runs_lawful : RunsAreLawful
 runs_lawful script fit =
     let run = run_of script in
     let keeps = run_keeps [] first_world script.events fit.each worlds_sound.first first_facts in
+    let passed_on : (i : ℕ) (turn : Turn) → slice_get run i ≡ Some turn → IsPassedOn run i (history_after turn) = λ i turn is. record { grows = λ j later le found. run_grows [] first_world script.events fit.each worlds_sound.first first_facts i j turn later le is found } in
     record {
       one_place = record {
         grows = run_grows [] first_world script.events fit.each worlds_sound.first first_facts;
         numbered = λ i turn is caller. subst (λ p. IsNumbered (begun_by caller p) (entries_of caller (history_after turn))) (sym (take_with run i turn is)) ((keeps i turn is).facts.in_step.numbered caller);
       };
       told_reply = λ i turn is. (keeps i turn is).told;
+      acyclic = λ i turn is n. order_acyclic (take n (history_after turn));
+      parts = λ i turn is. All-weaker (λ part. IsToldPart (history_after turn) (seen_by part.client (take i run)) part.part) (IsPartTrue run i (history_after turn)) (λ part told. part_true run i (history_after turn) part (passed_on i turn is) told) turn.outcome.parts (keeps i turn is).parts;
     }

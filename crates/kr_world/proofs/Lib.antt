@@ -1,10 +1,13 @@
+pub mod AskLemmas
 pub mod CallLemmas
 pub mod EntryLemmas
+pub mod FreshLemmas
 pub mod HearLemmas
 pub mod KeepLemmas
 pub mod LawfulLemmas
 pub mod ListFacts
 pub mod PacketLemmas
+pub mod PartLemmas
 pub mod PastLemmas
 pub mod ServerLemmas
 pub mod SoundLemmas

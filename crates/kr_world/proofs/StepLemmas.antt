@@ -1,41 +1,64 @@
 -- What is known of a step that is not refused.
 use Rattle.std.proofs.Common.{◌≡◌, ℕ, ◌<◌, ◌≤◌, Bool, true, false, leb, List, length, refl, sym, ap, ◌∙◌, subst, arith}
 use Rattle.std.specs.Prelude.{Option, None, Some, is_some, slice_get, All}
-use Rattle.std.proofs.lemmas.Bool.{leb-false, false≢true}
+use Rattle.std.proofs.lemmas.Bool.{leb-false, false≢true, or_parts}
 use Rattle.std.proofs.lemmas.Option.{none-some, slice_get_within, get_or_from_slice_get}
 use Rattle.std.proofs.lemmas.List.Elements.{All-get_or}
 use Rattle.kr_order.specs.declared.message.Packet.{Packet}
-use Rattle.kr_protocol.specs.Client.{Client}
-use Rattle.kr_world.specs.declared.refusal.Refusal.TheVariants.{Busy, BagFull}
+use Rattle.kr_protocol.specs.Server.{Server}
+use Rattle.kr_protocol.specs.Client.{Client, is_busy}
+use Rattle.kr_world.specs.declared.refusal.Refusal.TheVariants.{NoSuchClient, NoSuchServer, Busy, BagFull}
 use Rattle.script_lang.specs.declared.script.Event.TheVariants.{Call, Deliver}
 use Rattle.kr_order.specs.declared.ids.ClientId.{ClientId}
 use Rattle.kr_order.specs.declared.history.Command.{Command}
 use Rattle.kr_world.specs.FullBag.{AFullBagRefuses}
 use Rattle.kr_world.specs.World.{World, client_at, packet_at}
-use Rattle.kr_world.specs.Step.{bag_limit, is_full, call_refusal, deliver_refusal, refusal_of, refuses, act, unless, step}
+use Rattle.kr_world.specs.Step.{bag_limit, is_full, call_refusal, query_refusal, work_refusal, deliver_refusal, refusal_of, refuses, act, unless, step}
 
 -- what holds of each element holds of the one at an index
 pub at_index : {X : Type 0} (P : X → Type 0) (xs : List X) (i : ℕ) (x : X) → All P xs → slice_get xs i ≡ Some x → P x
 at_index P xs i x all is =
     subst P (get_or_from_slice_get xs i x x is) (All-get_or P xs i x (slice_get_within xs i x is) all)
 
--- a call that is not refused finds its client idle, and room in the bag
-pub record IsIdle (world : World) (client : Client) : Type 0 where
-  pub idle : client.call ≡ None
-  pub room : length world.bag < bag_limit
-
 none_of : {A : Type 0} (o : Option A) → is_some o ≡ false → o ≡ None
 none_of None is = refl
 none_of (Some x) is = absurd (false≢true (sym is))
 
-idle_cases : (world : World) (client : Client) (busy full : Bool) → is_some client.call ≡ busy → is_full world ≡ full → call_refusal world (Some client) ≡ None → IsIdle world client
+-- a call that is not refused finds its client idle, and room in the bag
+pub record IsIdle (world : World) (client : Client) : Type 0 where
+  pub idle : is_busy client ≡ false
+  pub room : length world.bag < bag_limit
+
+idle_cases : (world : World) (client : Client) (busy full : Bool) → is_busy client ≡ busy → is_full world ≡ full → call_refusal world (Some client) ≡ None → IsIdle world client
 idle_cases world client true full is is' none = absurd (none-some Busy (sym (rw is at none)))
 idle_cases world client false true is is' none = absurd (none-some BagFull (sym (rw (is, is') at none)))
 idle_cases world client false false is is' none =
-    record { idle = none_of client.call is; room = leb-false bag_limit (length world.bag) is' }
+    record { idle = is; room = leb-false bag_limit (length world.bag) is' }
 
 pub idle_client : (world : World) (client : Client) → call_refusal world (Some client) ≡ None → IsIdle world client
-idle_client world client none = idle_cases world client (is_some client.call) (is_full world) refl refl none
+idle_client world client none = idle_cases world client (is_busy client) (is_full world) refl refl none
+
+-- a query that is not refused is of a client that may call, to a server that is there
+pub record MayAsk (world : World) (found : Option Client) (to : Option Server) : Type 0 where
+  pub client : Client
+  pub client_is : found ≡ Some client
+  pub may_call : call_refusal world (Some client) ≡ None
+  pub server : Server
+  pub server_is : to ≡ Some server
+
+pub may_ask : (world : World) (found : Option Client) (to : Option Server) → query_refusal world found to ≡ None → MayAsk world found to
+may_ask world None to none = absurd (none-some NoSuchClient (sym none))
+may_ask world (Some client) None none = absurd (none-some NoSuchServer (sym none))
+may_ask world (Some client) (Some server) none =
+    record { client = client; client_is = refl; may_call = none; server = server; server_is = refl }
+
+-- an idle client has no open command
+pub no_call : (client : Client) → is_busy client ≡ false → client.call ≡ None
+no_call client idle = none_of client.call (or_parts (is_some client.call) (is_some client.asking) idle).0
+
+-- and no open query
+pub no_query : (client : Client) → is_busy client ≡ false → client.asking ≡ None
+no_query client idle = none_of client.asking (or_parts (is_some client.call) (is_some client.asking) idle).1
 
 -- a delivery that is not refused finds room in the bag
 room_cases : (world : World) (packet : Packet) (full : Bool) → is_full world ≡ full → deliver_refusal world (Some packet) ≡ None → length world.bag < bag_limit
@@ -45,6 +68,14 @@ room_cases world packet false is none = leb-false bag_limit (length world.bag) i
 pub room_to_deliver : (world : World) (packet : Packet) → deliver_refusal world (Some packet) ≡ None → length world.bag < bag_limit
 room_to_deliver world packet none = room_cases world packet (is_full world) refl none
 
+-- so does a server that is to work
+work_cases : (world : World) (server : Server) (full : Bool) → is_full world ≡ full → work_refusal world (Some server) ≡ None → length world.bag < bag_limit
+work_cases world server true is none = absurd (none-some BagFull (sym (rw is at none)))
+work_cases world server false is none = leb-false bag_limit (length world.bag) is
+
+pub room_to_work : (world : World) (server : Server) → work_refusal world (Some server) ≡ None → length world.bag < bag_limit
+room_to_work world server none = work_cases world server (is_full world) refl none
+
 full_by_count : (world : World) → bag_limit ≤ length world.bag → is_full world ≡ true
 full_by_count world enough = by_test (leb bag_limit (length world.bag)) refl
   where
@@ -52,7 +83,7 @@ full_by_count world enough = by_test (leb bag_limit (length world.bag)) refl
     by_test true is = is
     by_test false is = absurd (omega (arith, leb-false bag_limit (length world.bag) is))
 
-call_full : (world : World) (id : ClientId) (command : Command) (client : Client) → bag_limit ≤ length world.bag → client_at world id ≡ Some client → client.call ≡ None → step world (Call id command) ≡ refuses world BagFull
+call_full : (world : World) (id : ClientId) (command : Command) (client : Client) → bag_limit ≤ length world.bag → client_at world id ≡ Some client → is_busy client ≡ false → step world (Call id command) ≡ refuses world BagFull
 call_full world id command client enough there idle =
     let refused : call_refusal world (Some client) ≡ Some BagFull = rw (idle, full_by_count world enough) refl in
     let why : refusal_of world (Call id command) ≡ Some BagFull = ap (call_refusal world) there ∙ refused in

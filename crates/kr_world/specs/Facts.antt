@@ -1,16 +1,25 @@
 -- What holds of every world of a run, after the steps that came before it, and the laws of runs stand on.
-use Rattle.std.specs.Prelude.{◌≡◌, ℕ, ◌+◌, ◌-◌, ◌≤◌, List, length, take, slice_get, All, Option, None, Some}
+use Rattle.std.specs.Prelude.{◌≡◌, ℕ, ◌+◌, ◌-◌, ◌≤◌, List, [], ◌∷◌, ◌++◌, ◌==◌, if◌then◌else◌, length, take, slice_get, All, Option, None, Some}
 use Rattle.kr_order.specs.declared.ids.ClientId.{ClientId}
+use Rattle.kr_order.specs.declared.ids.EventId.{EventId}
+use Rattle.kr_order.specs.declared.answer.Query.{Query}
+use Rattle.kr_order.specs.declared.answer.Told.{Told}
+use Rattle.kr_order.specs.declared.answer.ToldPart.{ToldPart}
+use Rattle.kr_order.specs.Answer.{answer_to}
 use Rattle.kr_order.specs.declared.history.Command.{Command}
 use Rattle.kr_order.specs.declared.history.Entry.{Entry}
 use Rattle.kr_order.specs.declared.history.Placed.{Placed}
 use Rattle.kr_order.specs.declared.message.Node as nodes
 use Rattle.kr_order.specs.declared.message.Node.TheVariants.{Manager, Client as AtClient, Server as AtServer}
 use Rattle.kr_order.specs.declared.message.Message.{Message}
-use Rattle.kr_order.specs.declared.message.Message.TheVariants.{Request, Replied}
+use Rattle.kr_order.specs.declared.message.Message.TheVariants.{Request, Replied, Ask, Answered}
 use Rattle.kr_order.specs.declared.message.Packet.{Packet}
 use Rattle.kr_order.specs.Reply.{reply_to}
+use Rattle.kr_protocol.specs.Server.{Server, answers_after}
 use Rattle.kr_protocol.specs.Client.{Client}
+use Rattle.script_lang.specs.declared.script.Event.{Event}
+use Rattle.script_lang.specs.declared.script.Event.TheVariants.{Call, Query as ToQuery, Deliver, Work}
+use Rattle.kr_world.specs.declared.refusal.Refusal.{Refusal}
 use Rattle.kr_world.specs.World.{World}
 use Rattle.kr_world.specs.Run.{Turn}
 use Rattle.kr_world.specs.Lawful.{begun_by, entries_of, seen_by, IsNumbered}
@@ -20,6 +29,45 @@ pub record HasBegun (past : List Turn) (caller : ClientId) (seq : ℕ) (command 
   pub caller_low : 1 ≤ caller.0
   pub seq_low : 1 ≤ seq
   pub begun : slice_get (begun_by caller past) (seq - 1) ≡ Some command
+
+-- the pairs of the query that the client begins by this event, if it does
+abbrev pub asks_by : ClientId → Event → Option Refusal → List (List (EventId × EventId))
+asks_by client (ToQuery caller server pairs) None = if caller.0 == client.0 then pairs ∷ [] else []
+asks_by client (ToQuery caller server pairs) (Some why) = []
+asks_by client (Call caller command) refused = []
+asks_by client (Deliver k) refused = []
+asks_by client (Work server workers) refused = []
+
+-- the pairs of the queries that the client began in these steps, in order
+abbrev pub asked_by : ClientId → List Turn → List (List (EventId × EventId))
+asked_by client [] = []
+asked_by client (turn ∷ turns) = asks_by client turn.event turn.outcome.refused ++ asked_by client turns
+
+-- the query of this number among those that the client began is of these pairs
+pub record HasAsked (past : List Turn) (caller : ClientId) (q : ℕ) (pairs : List (EventId × EventId)) : Type 0 where
+  pub caller_low : 1 ≤ caller.0
+  pub q_low : 1 ≤ q
+  pub some : 1 ≤ length pairs
+  pub asked : slice_get (asked_by caller past) (q - 1) ≡ Some pairs
+
+-- a query that waits is one that its client began
+abbrev pub IsTrueQuery : List Turn → Query → Type 0
+IsTrueQuery past query = HasAsked past query.client query.q query.pairs
+
+-- so is each query that waits at a server
+abbrev pub IsTrueServer : List Turn → Server → Type 0
+IsTrueServer past server = All (IsTrueQuery past) server.waiting
+
+-- the answers to the client's query of this number are those after the entry that they name
+pub record AreAnswers (past : List Turn) (history : List Entry) (caller : ClientId) (q : ℕ) (told : Told) : Type 0 where
+  pub pairs : List (EventId × EventId)
+  pub asked : HasAsked past caller q pairs
+  pub within : told.entry ≤ length history
+  pub answers : told.answers ≡ answers_after (take told.entry history) pairs
+
+-- answers in the packet to this query of the client are of an entry no earlier than what the client has seen
+pub record IsFresh (id : ClientId) (q seen : ℕ) (packet : Packet) : Type 0 where
+  pub fresh : (part : ℕ) (told : Told) → packet.to ≡ AtClient id → packet.message ≡ Answered q part told → seen ≤ told.entry
 
 -- the client's command of this number stands at this place, and has this reply
 pub record StandsAt (history : List Entry) (caller : ClientId) (seq : ℕ) (placed : Placed) : Type 0 where
@@ -43,21 +91,48 @@ IsTrueReply history Manager seq placed = Unit {0}
 IsTrueReply history (AtClient client) seq placed = StandsAt history client seq placed
 IsTrueReply history (AtServer server) seq placed = Unit {0}
 
+-- a client asks of the pairs of a query that it began
+abbrev pub IsTrueAsk : List Turn → nodes.Node → ℕ → List (EventId × EventId) → Type 0
+IsTrueAsk past Manager q pairs = Unit {0}
+IsTrueAsk past (AtClient client) q pairs = HasAsked past client q pairs
+IsTrueAsk past (AtServer server) q pairs = Unit {0}
+
+-- a client is sent the answers to a query that it began
+abbrev pub IsTrueAnswer : List Turn → List Entry → nodes.Node → ℕ → Told → Type 0
+IsTrueAnswer past history Manager q told = Unit {0}
+IsTrueAnswer past history (AtClient client) q told = AreAnswers past history client q told
+IsTrueAnswer past history (AtServer server) q told = Unit {0}
+
 abbrev pub IsTrueMessage : List Turn → List Entry → nodes.Node → nodes.Node → Message → Type 0
 IsTrueMessage past history from to (Request seq command) = IsTrueRequest past from seq command
 IsTrueMessage past history from to (Replied seq placed) = IsTrueReply history to seq placed
+IsTrueMessage past history from to (Ask q part pairs) = IsTrueAsk past from q pairs
+IsTrueMessage past history from to (Answered q part told) = IsTrueAnswer past history to q told
 
 -- a packet is true, whenever it was sent
 abbrev pub IsTruePacket : List Turn → List Entry → Packet → Type 0
 IsTruePacket past history packet = IsTrueMessage past history packet.from packet.to packet.message
+
+-- a told part is the answer after its entry, which is no earlier than all that its client had seen
+pub record IsToldPart (history : List Entry) (seen : ℕ) (part : ToldPart) : Type 0 where
+  pub within : part.entry ≤ length history
+  pub answer : part.answer ≡ answer_to (take part.entry history) part.a.0 part.b.0
+  pub current : seen ≤ part.entry
 
 -- how many calls of a client are open
 abbrev pub open_calls : Option Command → ℕ
 open_calls None = 0
 open_calls (Some command) = 1
 
--- the client at an index has seen nothing but what it was told, and that was closed calls of its own
-pub record IsTrueClient (past : List Turn) (history : List Entry) (i : ℕ) (client : Client) : Type 0 where
+-- a client with an open query has no open command, and no old answer to the query is under way
+pub record IsAsking (past : List Turn) (bag : List Packet) (client : Client) (pairs : List (EventId × EventId)) : Type 0 where
+  pub alone : client.call ≡ None
+  -- its open query is the last that it began
+  pub asked : HasAsked past client.id client.q pairs
+  pub fresh : All (IsFresh client.id client.q client.seen) bag
+
+-- the client at an index has seen nothing but what it was told
+pub record IsTrueClient (past : List Turn) (history : List Entry) (bag : List Packet) (i : ℕ) (client : Client) : Type 0 where
   pub id : client.id.0 ≡ i + 1
   -- it counts what it began
   pub seq : client.seq ≡ length (begun_by client.id past)
@@ -67,6 +142,9 @@ pub record IsTrueClient (past : List Turn) (history : List Entry) (i : ℕ) (cli
   pub within : client.seen ≤ length history
   -- the entry of its open call is not in what it has seen
   pub old : length (entries_of client.id (take client.seen history)) + open_calls client.call ≤ client.seq
+  -- it counts the queries that it began
+  pub q : client.q ≡ length (asked_by client.id past)
+  pub query : (pairs : List (EventId × EventId)) → client.asking ≡ Some pairs → IsAsking past bag client pairs
 
 -- seqs are in order
 pub record IsInStep (past : List Turn) (history : List Entry) : Type 0 where
@@ -81,4 +159,6 @@ pub record AreFacts (past : List Turn) (world : World) : Type 0 where
   -- seqs are in order
   pub in_step : IsInStep past world.history
   -- clients have seen only history
-  pub clients : (i : ℕ) (client : Client) → slice_get world.clients i ≡ Some client → IsTrueClient past world.history i client
+  pub clients : (i : ℕ) (client : Client) → slice_get world.clients i ≡ Some client → IsTrueClient past world.history world.bag i client
+  -- queries that wait were asked
+  pub servers : All (IsTrueServer past) world.servers

@@ -4,13 +4,13 @@ use Rattle.std.specs.Fmt.{decimal}
 use Rattle.kr_order.specs.declared.history.Entry.{Entry}
 use Rattle.kr_order.specs.declared.history.DoneEntry.{DoneEntry}
 use Rattle.kr_order.specs.declared.message.Packet.{Packet}
-use Rattle.kr_order.specs.Text.{client_text, node_text, reply_text, done_text, message_text}
+use Rattle.kr_order.specs.Text.{client_text, node_text, reply_text, part_text, done_text, message_text}
 use Rattle.kr_order.specs.Done.{done_of}
 use Rattle.script_lang.specs.Line.{line}
 use Rattle.kr_world.specs.declared.refusal.Refusal.{Refusal}
 use Rattle.kr_world.specs.Refusal.{refusal_word}
 use Rattle.kr_world.specs.World.{World}
-use Rattle.kr_world.specs.Step.{Told, Outcome}
+use Rattle.kr_world.specs.Step.{Told, Part, Outcome}
 
 -- the history has more entries than before
 abbrev pub grown_line : ℕ → ℕ → List ℕ
@@ -23,6 +23,13 @@ told_line told =
 abbrev pub told_lines : List Told → List ℕ
 told_lines [] = []
 told_lines (told ∷ more) = told_line told ++ told_lines more
+
+abbrev pub part_line : Part → List ℕ
+part_line part = line (codes "part " ++ client_text part.client ++ codes " " ++ part_text part.part)
+
+abbrev pub part_lines : List Part → List ℕ
+part_lines [] = []
+part_lines (part ∷ more) = part_line part ++ part_lines more
 
 abbrev pub refused_line : Option Refusal → List ℕ
 refused_line None = []
@@ -40,7 +47,7 @@ packet_lines sent (packet ∷ more) = packet_line (sent + 1) packet ++ packet_li
 -- what is printed of a step: how far the history has grown, what was told, why it was refused, what was sent
 abbrev pub step_lines : World → Outcome → List ℕ
 step_lines before outcome =
-    grown_line (length before.history) (length outcome.after.history) ++ told_lines outcome.told ++ refused_line outcome.refused ++ packet_lines (length before.bag) (drop (length before.bag) outcome.after.bag)
+    grown_line (length before.history) (length outcome.after.history) ++ told_lines outcome.told ++ part_lines outcome.parts ++ refused_line outcome.refused ++ packet_lines (length before.bag) (drop (length before.bag) outcome.after.bag)
 
 abbrev pub done_lines : List DoneEntry → List ℕ
 done_lines [] = []

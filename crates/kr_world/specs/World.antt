@@ -17,7 +17,7 @@ pub record World : Type 0 where
 -- the world of one server and one client, before the first step
 abbrev pub first_world : World
 first_world =
-    record { servers = record { id = record { 0 = 1 }; log = [] } ∷ []; clients = new_client (record { 0 = 1 }) ∷ []; bag = []; history = [] }
+    record { servers = record { id = record { 0 = 1 }; log = []; waiting = [] } ∷ []; clients = new_client (record { 0 = 1 }) ∷ []; bag = []; history = [] }
 
 abbrev pub server_at : World → ServerId → Option Server
 server_at world server = slice_get world.servers (server.0 - 1)

@@ -10,7 +10,8 @@ pub fn worlds_are_sound()
     ensures { WorldsAreSound }
 {}
 
-/// Every run of a script is lawful: each command has one place, and each told reply is true and new.
+/// Every run of a script is lawful: each command has one place, each told reply is true and new, the order stays
+/// acyclic, and each told part of a query is true.
 pub fn runs_are_lawful()
     ensures { RunsAreLawful }
 {}

@@ -10,6 +10,8 @@ use std::fmt;
 pub enum Refusal {
     /// There is no client of that number.
     NoSuchClient,
+    /// There is no server of that number.
+    NoSuchServer,
     /// No packet of that number was sent.
     NoSuchPacket,
     /// The client has an open call.
@@ -24,6 +26,7 @@ impl fmt::Display for Refusal {
     fn fmt<W: fmt::Write>(&self, f: &mut fmt::Formatter<W>) -> fmt::Result {
         match self {
             Refusal::NoSuchClient => write!(f, "NoSuchClient"),
+            Refusal::NoSuchServer => write!(f, "NoSuchServer"),
             Refusal::NoSuchPacket => write!(f, "NoSuchPacket"),
             Refusal::Busy => write!(f, "Busy"),
             Refusal::BagFull => write!(f, "BagFull"),

@@ -11,6 +11,7 @@ use std::test::Fail;
 use std::thread::Threads;
 
 mod bad_lines;
+mod batches;
 mod create_an_event;
 mod faults;
 
@@ -70,4 +71,16 @@ fn exit_without_faults<R: Threads + Sync>(
     ensures write { result ≢ Exit.WriteFault }
 {
     kronos_script(rt, alloc, words, source, sink)
+}
+
+// The lines of a transcript that say what was told.
+fn lines_told(alloc: Global, transcript: &[u8]) -> Result<Vec<u8>, Fail> {
+    let mut told = Vec::new(alloc);
+    for line in transcript.split(|b| *b == b'\n') {
+        if line.starts_with(b"told ") || line.starts_with(b"part ") {
+            told.extend_from_slice(line)?;
+            told.push(b'\n')?;
+        }
+    }
+    Ok(told)
 }

@@ -1,1 +1,3 @@
 pub mod StateLemmas
+pub mod PathLemmas
+pub mod PlanLemmas

@@ -1,5 +1,5 @@
 -- What a state keeps of each client's last entry, and when an entry is ready to be applied.
-use Rattle.std.specs.Prelude.{◌≡◌, ◌≤◌, ℕ, List, nat_eq}
+use Rattle.std.specs.Prelude.{◌≡◌, ◌≤◌, ◌++◌, ℕ, List, length, nat_eq}
 use Rattle.std.specs.Option.{option_map}
 use Rattle.std.specs.declared.hash.FoldHasher.{FoldHasher}
 use Rattle.std.specs.declared.hash.BuildHasherDefault.{BuildHasherDefault}
@@ -7,6 +7,8 @@ use Rattle.std.specs.HashMap.{get, HashMap}
 use Rattle.kr_order.specs.declared.history.Entry.{Entry}
 use Rattle.kr_order.specs.declared.history.DoneEntry.{DoneEntry}
 use Rattle.kr_order.specs.History.{born_in}
+use Rattle.kr_order.specs.Agreed.{pairs_after, agreed_of}
+use Rattle.kr_order.specs.Pairs.{pairs_of}
 use Rattle.kr_order.specs.Reply.{reply_to}
 use Rattle.kr_order.specs.Done.{done_after, done_of, last_of}
 use Rattle.order_state.specs.declared.kept.Kept.{Kept}
@@ -21,9 +23,12 @@ kept_of done = record { seq = done.entry.seq; place = done.place; reply = done.r
 pub record IsReady (standing : Standing) (prepared : Prepared) : Type 0 where
   pub reply : prepared.reply ≡ reply_to standing.history prepared.entry.command
   pub kept : prepared.kept ≡ kept_of (done_after standing.history prepared.entry)
+  pub adds : pairs_after prepared.entry.command (agreed_of standing.history) ≡ pairs_of standing.history ++ prepared.adds.items
   pub room : 1 ≤ standing.room
+  pub pair_room : length prepared.adds.items ≤ standing.pair_room
 
--- the number of births is the history's, and the table has what is kept of each client's last entry
-pub record IsTableOf (history : List Entry) (born : ℕ) (table : HashMap ℕ Kept (BuildHasherDefault FoldHasher)) : Type 0 where
+-- the number of births and the pairs are the history's, and the table has what is kept of each client's last entry
+pub record IsKeptOf (history : List Entry) (born : ℕ) (pairs : List (ℕ × ℕ)) (table : HashMap ℕ Kept (BuildHasherDefault FoldHasher)) : Type 0 where
   pub births : born ≡ born_in history
+  pub order : pairs ≡ pairs_of history
   pub found : (client : ℕ) → get nat_eq table client ≡ option_map kept_of (last_of (record { 0 = client }) (done_of history))

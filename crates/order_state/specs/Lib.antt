@@ -1,2 +1,5 @@
 pub mod Standing
 pub mod Kept
+pub mod Path
+pub mod Draft
+pub mod Plan

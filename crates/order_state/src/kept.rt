@@ -21,4 +21,6 @@ pub struct Prepared {
     pub kept: Kept,
     /// What `State::apply` will answer: the reply in `kept` once more.
     pub reply: Reply,
+    /// The pairs that the entry adds to the order, by the numbers of their events.
+    pub adds: Vec<(u64, u64)>,
 }

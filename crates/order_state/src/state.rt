@@ -1,14 +1,23 @@
-//! The state: the entries of the history, how many events they made, and each client's last entry.
+//! The state: the entries of the history, what they come to, and each client's last entry.
 
-ghost use Rattle.std.specs.Prelude.{◌≡◌, ◌+◌, ◌^◌, ◌<◌, ◌≤◌, ℕ, List, [], ◌∷◌, ◌++◌, length, IfOk, OnOk};
+ghost use Rattle.std.specs.Prelude.{◌≡◌, ◌+◌, ◌^◌, ◌<◌, ◌≤◌, [], ◌∷◌, ◌++◌, true, length, IfOk, OnOk};
+ghost use Rattle.std.specs.List.{All};
 ghost use Rattle.std.specs.Option.{option_copied, option_map};
 ghost use Rattle.kr_order.specs.History.{births_of, born_in};
+ghost use Rattle.kr_order.specs.Agreed.{agreed_of, is_live};
+ghost use Rattle.kr_order.specs.Pairs.{pairs_of};
 ghost use Rattle.kr_order.specs.Reply.{reply_to};
+ghost use Rattle.kr_order.specs.Answer.{answer_to};
 ghost use Rattle.kr_order.specs.Done.{done_of, last_of, seq_of};
 ghost use Rattle.order_state.specs.Kept.{kept_of, IsReady};
+ghost use Rattle.order_state.specs.Path.{IsBelow};
+ghost use Rattle.order_state.specs.Plan.{IsPlan};
 
+use crate::draft::Draft;
+use crate::path::answer_over;
+use crate::plan::{Plan, adds_nothing, checked, first_unmade, is_made};
 use crate::{Kept, Prepared};
-use kr_order::{ClientId, Command, Copied, Entry, EventId, NoMemory, Reply};
+use kr_order::{Answer, ClientId, Command, Copied, Entry, EventId, NoMemory, Pair, Reply};
 use std::alloc::Global;
 use std::collections::HashMap;
 use std::marker::Model;
@@ -18,6 +27,8 @@ use std::marker::Model;
 pub struct State {
     entries: Vec<Entry>,
     born: u64,
+    // the order, by the numbers of the events, the oldest pair first
+    pairs: Vec<(u64, u64)>,
     // a client's last entry, by the client's number
     last: HashMap<u32, Kept>,
 }
@@ -27,13 +38,13 @@ impl Model for State {
     ghost use Rattle.std.specs.Vec.{vec_capacity};
     ghost use Rattle.std.specs.HashMap.{spare};
     ghost use Rattle.order_state.specs.Standing.{Standing};
-    ghost use Rattle.order_state.specs.Kept.{IsTableOf};
+    ghost use Rattle.order_state.specs.Kept.{IsKeptOf};
 
     ghost Value = { Standing };
 
-    ghost view = { λ s. record { history = s.entries.items; room = min (vec_capacity s.entries - vec_len s.entries) (spare s.last) } };
+    ghost view = { λ s. record { history = s.entries.items; room = min (vec_capacity s.entries - vec_len s.entries) (spare s.last); pair_room = vec_capacity s.pairs - vec_len s.pairs } };
 
-    ghost invariant = { λ s. IsTableOf s.entries.items s.born s.last };
+    ghost invariant = { λ s. IsKeptOf s.entries.items s.born s.pairs.items s.last };
 }
 
 // How many events the command makes.
@@ -43,16 +54,7 @@ fn births(command: &Command) -> u64
 {
     match command {
         Command::Create => 1,
-    }
-}
-
-// The reply of the command after a history that made this many events.
-fn reply_after(born: u64, command: &Command) -> Reply
-    requires { born + 1 < 2 ^ 64 }
-    ensures { (history : List Entry) → born_in history ≡ born → result ≡ reply_to history command.now }
-{
-    match command {
-        Command::Create => Reply::Created(EventId(born + 1)),
+        Command::Assign(_) => 0,
     }
 }
 
@@ -64,18 +66,22 @@ impl State {
         State {
             entries: Vec::new(alloc),
             born: 0,
+            pairs: Vec::new(alloc),
             last: HashMap::new(alloc),
         }
     }
 
-    // Makes room for one more entry.
-    fn reserve(&mut self) -> Result<(), NoMemory>
+    // Makes room for one more entry, and for so many pairs.
+    fn reserve(&mut self, pairs: usize) -> Result<(), NoMemory>
         ensures history { self.new.history ≡ self.old.history }
         ensures room { OnOk result (1 ≤ self.new.room) }
+        ensures pair_room { OnOk result (pairs ≤ self.new.pair_room) }
         ensures keeps_room { self.old.room ≤ self.new.room }
+        ensures keeps_pair_room { self.old.pair_room ≤ self.new.pair_room }
     {
         self.entries.reserve(1)?;
         self.last.reserve(1)?;
+        self.pairs.reserve(pairs)?;
         Ok(())
     }
 
@@ -87,10 +93,11 @@ impl State {
         ensures entry { IfOk result (λ p. p.entry ≡ entry.now) }
         ensures ready { IfOk result (IsReady self.new) }
         ensures room { self.old.room ≤ self.new.room }
+        ensures pair_room { self.old.pair_room ≤ self.new.pair_room }
     {
-        self.reserve()?;
         let alloc = *self.entries.allocator();
-        let reply = self.reply_of(&entry.command);
+        let Plan { reply, adds } = self.plan(&entry.command)?;
+        self.reserve(adds.len())?;
         let kept = Kept {
             seq: entry.seq,
             place: self.count() + 1,
@@ -100,15 +107,36 @@ impl State {
             entry: entry.copy(alloc)?,
             kept,
             reply,
+            adds,
         })
     }
 
-    // The reply of a command at the next place.
-    fn reply_of(&self, command: &Command) -> Reply
-        requires { length self.now.history < 2 ^ 58 }
-        ensures { result ≡ reply_to self.now.history command.now }
+    // What a command at the next place is to do.
+    fn plan(&self, command: &Command) -> Result<Plan, NoMemory>
+        ensures { IfOk result (IsPlan self.now.history command.now) }
     {
-        reply_after(self.born, command)
+        match command {
+            Command::Create => {
+                let alloc = *self.entries.allocator();
+                Ok(adds_nothing(alloc, Reply::Created(EventId(self.next_event()))))
+            }
+            Command::Assign(batch) => self.plan_batch(batch.as_slice()),
+        }
+    }
+
+    // What a batch at the next place is to do.
+    fn plan_batch(&self, batch: &[Pair]) -> Result<Plan, NoMemory>
+        requires { length batch.now ≤ 32 }
+        ensures { IfOk result (IsPlan self.now.history (Command.Assign batch.now)) }
+    {
+        let alloc = *self.entries.allocator();
+        match first_unmade(self.born(), batch) {
+            Some(i) => Ok(adds_nothing(alloc, Reply::Unknown(i))),
+            None => {
+                let draft = Draft::new(alloc, self.next_event() as usize, self.order())?;
+                checked(alloc, draft, batch)
+            }
+        }
     }
 
     /// Puts a prepared entry at the end of the history, and gives its reply. It takes no memory.
@@ -118,12 +146,20 @@ impl State {
         ensures history { self.new.history ≡ self.old.history ++ prepared.entry ∷ [] }
         ensures reply { result ≡ reply_to self.old.history prepared.entry.command }
         ensures room { self.old.room ≤ self.new.room + 1 }
+        ensures pair_room { self.old.pair_room ≤ self.new.pair_room + length prepared.adds.items }
     {
-        let Prepared { entry, kept, reply } = prepared;
+        let Prepared {
+            entry,
+            kept,
+            reply,
+            adds,
+        } = prepared;
         let client = entry.client.0;
         let made = births(&entry.command);
         self.born += made;
         self.entries.push_reserved(entry);
+        let added: Result<_, _> = self.pairs.extend_from_slice(adds.as_slice());
+        added.unwrap();
         let inserted: Result<_, _> = self.last.insert(client, kept);
         let _ = inserted.unwrap();
         reply
@@ -158,5 +194,41 @@ impl State {
         ensures { result ≡ born_in self.now.history }
     {
         self.born
+    }
+
+    /// How `a` stands to `b`; `Unknown` where one of them is not live. The memory that it takes is for the search
+    /// for a path, and `NoMemory` comes where there is none for it.
+    pub fn answer(&self, a: EventId, b: EventId) -> Result<Answer, NoMemory>
+        ensures { IfOk result (λ answer. answer ≡ answer_to self.now.history a.0 b.0) }
+    {
+        if !(self.is_live(a) && self.is_live(b)) {
+            return Ok(Answer::Unknown);
+        }
+        let alloc = *self.entries.allocator();
+        let mut marks = vec![in alloc; false; self.next_event() as usize]?;
+        Ok(answer_over(self.order(), a.0, b.0, marks.as_mut_slice()))
+    }
+
+    // The number of the event that the next create makes.
+    fn next_event(&self) -> u64
+        ensures { result ≡ born_in self.now.history + 1 }
+    {
+        self.born + 1
+    }
+
+    // The pairs of the order; all their events were made.
+    fn order(&self) -> &[(u64, u64)]
+        ensures value { result.now ≡ pairs_of self.now.history }
+        ensures below { All (IsBelow (born_in self.now.history + 1)) result.now }
+    {
+        self.pairs.as_slice()
+    }
+
+    // Whether the event is live: while no reference can be released, whether it was made.
+    fn is_live(&self, event: EventId) -> bool
+        ensures live { result ≡ is_live (agreed_of self.now.history) event.0 }
+        ensures made { result ≡ true → event.0 ≤ born_in self.now.history }
+    {
+        is_made(self.born(), event)
     }
 }

@@ -1,49 +1,151 @@
 //! Each call of a state, where memory suffices.
 
 use super::*;
-use kr_order::{ClientId, Command, Entry, Reply};
+use kr_order::{Answer, Batch, ClientId, Command, Entry, EventId, Kind, NoMemory, Pair, PushStop};
+use std::alloc::Global;
+use std::process::Abort;
 use std::test::Fail;
 
-// The event of a reply, by its number.
-fn event_of(reply: &Reply) -> u64 {
-    match reply {
-        Reply::Created(id) => id.0,
-    }
-}
+const MUST: Kind = Kind::Must;
+
+const PREFER: Kind = Kind::Prefer;
 
 // A state can be moved to a thread and be read by several.
 fn crosses_threads<T: Send + Sync>(_value: &T) {}
 
-// Client 2 creates, client 9 creates, client 2 creates again: events 1, 2 and 3, one an entry.
+// The command that assigns these pairs.
+fn assign(alloc: Global, pairs: &[(u64, Kind, u64)]) -> Result<Command, PushStop> {
+    let mut batch = Batch::new(alloc);
+    for (first, kind, second) in pairs {
+        batch.push(Pair {
+            first: EventId(*first),
+            second: EventId(*second),
+            kind: *kind,
+        })?;
+    }
+    Ok(Command::Assign(batch))
+}
+
+// The client's next command is done, and its reply has this text.
+fn done(
+    rt: &impl Abort,
+    alloc: Global,
+    state: &mut State,
+    client: u32,
+    command: Command,
+    text: &str,
+) -> Result<(), NoMemory> {
+    let client = ClientId(client);
+    let seq = state.highest(client);
+    assert!(rt; seq < 100 && state.count() < 100);
+    let (count, born) = (state.count(), state.born());
+    let entry = Entry {
+        client,
+        seq: seq + 1,
+        command,
+    };
+    let prepared = state.prepare(&entry)?;
+    assert_eq!(rt; (state.count(), state.born()), (count, born));
+    let reply = state.apply(prepared);
+    assert_eq!(rt; format!(in alloc; "{reply}")?.as_str(), text);
+    assert_eq!(rt;
+        (state.count(), state.highest(client)),
+        (count + 1, seq + 1)
+    );
+    Ok(())
+}
+
+// The answer to two events is this one.
+fn answers(rt: &impl Abort, state: &State, a: u64, b: u64, answer: Answer) -> Result<(), NoMemory> {
+    assert_eq!(rt;
+        state.answer(EventId(a), EventId(b))?,
+        answer,
+        "{a} and {b}"
+    );
+    Ok(())
+}
+
+// The last entry that is kept of the client is this one.
+fn keeps(
+    rt: &impl Abort,
+    alloc: Global,
+    state: &State,
+    client: u32,
+    seq: u64,
+    place: u64,
+    text: &str,
+) -> Result<(), NoMemory> {
+    let kept = state.last(ClientId(client));
+    assert!(rt; kept.is_some());
+    if let Some(kept) = kept {
+        let reply = &kept.reply;
+        assert_eq!(rt; (kept.seq, kept.place), (seq, place));
+        assert_eq!(rt; format!(in alloc; "{reply}")?.as_str(), text);
+    }
+    Ok(())
+}
+
+// The shop's batches, with their replies.
+fn batches(rt: &impl Abort, alloc: Global, state: &mut State) -> Result<(), Fail> {
+    let rows: [(u32, &[(u64, Kind, u64)], &str); 8] = [
+        // the order, then the payment, then the parcel
+        (2, &[(1, MUST, 2), (2, MUST, 3)], "assigned kept kept"),
+        // against a path of two pairs
+        (9, &[(3, MUST, 1)], "contradicts 0"),
+        // the must before it is not kept either
+        (9, &[(1, MUST, 4), (3, MUST, 1)], "contradicts 1"),
+        // the musts come first, and the prefer before this one is too late
+        (2, &[(3, PREFER, 4), (4, MUST, 3)], "assigned reversed kept"),
+        (
+            9,
+            &[(3, PREFER, 1), (2, PREFER, 2)],
+            "assigned reversed same",
+        ),
+        // an unknown event comes before a contradiction
+        (2, &[(3, MUST, 1), (2, PREFER, 5)], "unknown 1"),
+        (9, &[(0, MUST, 1)], "unknown 0"),
+        (2, &[], "assigned"),
+    ];
+    for (client, pairs, text) in rows {
+        let command = assign(alloc, pairs)?;
+        done(rt, alloc, state, client, command, text)?;
+    }
+    Ok(())
+}
+
+// A shop: event 1 is an order, 2 its payment, 3 its parcel, 4 a mail about it. Clients 2 and 9 take turns.
 #[test]
-fn creates_of_two_clients_are_kept_apart(rt: HostRuntime) -> Result<(), Fail> {
-    let mut state = State::new(rt.alloc());
+fn a_shop_orders_its_events(rt: HostRuntime) -> Result<(), Fail> {
+    let alloc = rt.alloc();
+    let mut state = State::new(alloc);
     crosses_threads(&state);
     assert_eq!(rt; (state.count(), state.born()), (0, 0));
+    answers(&rt, &state, 1, 1, Answer::Unknown)?;
 
-    for (client, seq, place) in [(2, 1, 1), (9, 1, 2), (2, 2, 3)] {
-        let entry = Entry {
-            client: ClientId(client),
-            seq,
-            command: Command::Create,
-        };
-        assert!(rt; state.count() < 3);
-        let prepared = state.prepare(&entry)?;
-        assert_eq!(rt; (state.count(), state.born()), (place - 1, place - 1));
-        let reply = state.apply(prepared);
-        assert_eq!(rt; event_of(&reply), place);
-        assert_eq!(rt; (state.count(), state.born()), (place, place));
-    }
+    done(&rt, alloc, &mut state, 2, Command::Create, "created 1")?;
+    done(&rt, alloc, &mut state, 9, Command::Create, "created 2")?;
+    done(&rt, alloc, &mut state, 2, Command::Create, "created 3")?;
+    done(&rt, alloc, &mut state, 9, Command::Create, "created 4")?;
+    answers(&rt, &state, 1, 2, Answer::Concurrent)?;
 
-    for (client, seq, place) in [(2, 2, 3), (9, 1, 2)] {
-        let kept = state.last(ClientId(client)).ok_or("no entry")?;
-        assert_eq!(rt;
-            (kept.seq, kept.place, event_of(&kept.reply)),
-            (seq, place, place)
-        );
-        assert_eq!(rt; state.highest(ClientId(client)), seq);
+    batches(&rt, alloc, &mut state)?;
+    for (a, b, answer) in [
+        (1, 3, Answer::Before),
+        (3, 1, Answer::After),
+        (4, 3, Answer::Before),
+        (1, 4, Answer::Concurrent),
+        (2, 2, Answer::Same),
+        (5, 5, Answer::Unknown),
+        (0, 1, Answer::Unknown),
+    ] {
+        answers(&rt, &state, a, b, answer)?;
     }
+    keeps(&rt, alloc, &state, 2, 6, 12, "assigned")?;
+    keeps(&rt, alloc, &state, 9, 6, 11, "unknown 0")?;
     assert!(rt; state.last(ClientId(3)).is_none());
-    assert_eq!(rt; state.highest(ClientId(3)), 0);
+    assert_eq!(rt;
+        (state.count(), state.born(), state.highest(ClientId(3))),
+        (12, 4, 0)
+    );
     Ok(())
 }

@@ -1,3 +1,8 @@
 pub mod LineLemmas
+pub mod NumberLemmas
+pub mod WordLemmas
+pub mod PairLemmas
+pub mod EventLemmas
+pub mod KindLemmas
 pub mod ScriptLemmas
 mod Spellings

@@ -1,60 +1,27 @@
--- Events by their lines: each line is of one event, and bytes are events' lines in one way.
-use Rattle.std.proofs.Common.{◌≡◌, ◌≢◌, ℕ, List, [], ◌∷◌, ◌++◌, get_or, refl, sym, ap, ◌∙◌, subst, arith, append_assoc}
-use Rattle.std.specs.Prelude.{All, codes}
-use Rattle.std.specs.Fmt.{decimal}
-use Rattle.std.proofs.lemmas.Fmt.{decimal_injective}
-use Rattle.std.proofs.lemmas.List.{append-nil, append_cancel_left}
-use Rattle.std.proofs.lemmas.List.Elements.{All-append, All-nil, All-push}
-use Rattle.kr_order.specs.declared.ids.ClientId.{ClientId}
-use Rattle.kr_order.specs.declared.history.Command.TheVariants.{Create}
+-- Bytes are events' lines in one way.
+use Rattle.std.proofs.Common.{inr, ◌+◌, length, Option, None, Some, ◌≡◌, ◌≢◌, ℕ, List, [], ◌∷◌, ◌++◌, refl, sym, ap, ◌∙◌, subst, append_assoc}
+use Rattle.std.specs.Prelude.{All}
+use Rattle.std.proofs.lemmas.List.{append-nil}
+use Rattle.std.proofs.lemmas.List.Elements.{All-nil, All-push}
 use Rattle.script_lang.specs.declared.script.Event.{Event}
-use Rattle.script_lang.specs.declared.script.Event.TheVariants.{Call, Deliver}
 use Rattle.script_lang.specs.Line.{line, HasNoEnd, IsCut}
-use Rattle.script_lang.specs.Event.{IsNumber, IsEvent, event_text}
-use Rattle.script_lang.specs.Script.{IsSize, first_line, event_lines, BeginsWithEvent}
-use Rattle.script_lang.specs.Reading.{ReadsSize, ReadsEvent}
-use Rattle.script_lang.proofs.LineLemmas.{cut_once, line_has_end, decimal_has_no_end, no_end_by_test}
-
--- a number is known by its text
-pub number-injective : (m n : ℕ) → IsNumber m → IsNumber n → decimal m ≡ decimal n → m ≡ n
-number-injective m n fit fit' same = decimal_injective m n (omega arith) (omega arith) same
-
--- no event's text has an LF in it
-pub event_text-has_no_end : (event : Event) → IsEvent event → HasNoEnd (event_text event)
-event_text-has_no_end (Call client Create) fit =
-    All-append (λ b. b ≢ 10) (codes "create" ++ codes " " ++ decimal client.0) [] (All-append (λ b. b ≢ 10) (codes "create" ++ codes " ") (decimal client.0) (no_end_by_test (codes "create" ++ codes " ") refl) (decimal_has_no_end client.0 (omega arith))) (All-nil (λ b. b ≢ 10))
-event_text-has_no_end (Deliver k) fit =
-    All-append (λ b. b ≢ 10) (codes "deliver ") (decimal k) (no_end_by_test (codes "deliver ") refl) (decimal_has_no_end k (omega arith))
-
-first_differs : (xs ys : List ℕ) (x y : ℕ) → x ≢ y → x ∷ xs ≡ y ∷ ys → ⊥
-first_differs xs ys x y differ same = differ (ap (λ zs. get_or zs 0 0) same)
-
-client_of-text : (one other : ClientId) → IsNumber one.0 → IsNumber other.0 → decimal one.0 ≡ decimal other.0 → one ≡ other
-client_of-text one other fit fit' same = ap (λ n. let c : ClientId = record { 0 = n } in c) (number-injective one.0 other.0 fit fit' same)
-
--- an event is known by its text
-pub event_text-injective : (one other : Event) → IsEvent one → IsEvent other → event_text one ≡ event_text other → one ≡ other
-event_text-injective (Call client Create) (Call client' Create) fit fit' same =
-    let texts : codes "create" ++ codes " " ++ decimal client.0 ≡ codes "create" ++ codes " " ++ decimal client'.0 = sym (append-nil (codes "create" ++ codes " " ++ decimal client.0)) ∙ same ∙ append-nil (codes "create" ++ codes " " ++ decimal client'.0) in
-    ap (λ c. Call c Create) (client_of-text client client' fit fit' (append_cancel_left (codes "create" ++ codes " ") (decimal client.0) (decimal client'.0) texts))
-event_text-injective (Call client Create) (Deliver k') fit fit' same =
-    absurd (first_differs _ _ 99 100 (λ e. absurd (omega arith)) same)
-event_text-injective (Deliver k) (Call client' Create) fit fit' same =
-    absurd (first_differs _ _ 100 99 (λ e. absurd (omega arith)) same)
-event_text-injective (Deliver k) (Deliver k') fit fit' same =
-    ap Deliver (number-injective k k' fit fit' (append_cancel_left (codes "deliver ") (decimal k) (decimal k') same))
+use Rattle.script_lang.specs.Event.{IsEvent, event_text}
+use Rattle.script_lang.specs.Script.{IsSize, first_line, event_lines, BeginsWithEvent, IsBadLine}
+use Rattle.script_lang.specs.Reading.{ReadsSize, ReadsEvent, Spells}
+use Rattle.script_lang.proofs.LineLemmas.{line_once, line_has_end}
+use Rattle.script_lang.proofs.EventLemmas.{event_text-has_no_end, event_text-injective}
 
 -- bytes begin with the line of one event at the most
 pub event_line-once : (one other : Event) (xs ys : List ℕ) → IsEvent one → IsEvent other → line (event_text one) ++ xs ≡ line (event_text other) ++ ys → (one ≡ other) × (xs ≡ ys)
 event_line-once one other xs ys fit fit' same =
-    let cut = cut_once (event_text one) xs (event_text other) ys (event_text-has_no_end one fit) (event_text-has_no_end other fit') same in
+    let cut = line_once (event_text one) xs (event_text other) ys (event_text-has_no_end one fit) (event_text-has_no_end other fit') same in
     (event_text-injective one other fit fit' cut.0, cut.1)
 
 -- a cut line that is no event's is in front of no event
 pub no_event_line : (bytes text rest : List ℕ) → IsCut bytes text rest → ((event : Event) → IsEvent event → text ≢ event_text event) → BeginsWithEvent bytes → ⊥
 no_event_line bytes text rest cut other found =
     let same : line text ++ rest ≡ line (event_text found.0) ++ found.1 = sym cut.whole ∙ found.3 in
-    other found.0 found.2 ((cut_once text rest (event_text found.0) found.1 cut.text_has_no_end (event_text-has_no_end found.0 found.2) same).0)
+    other found.0 found.2 ((line_once text rest (event_text found.0) found.1 cut.text_has_no_end (event_text-has_no_end found.0 found.2) same).0)
 
 -- bytes without an LF are in front of no event
 pub no_line : (bytes : List ℕ) → HasNoEnd bytes → BeginsWithEvent bytes → ⊥
@@ -95,3 +62,29 @@ read_more bytes servers clients events rest event more before read =
 -- all bytes are read
 pub read_all_of : (bytes : List ℕ) (servers clients : ℕ) (events : List Event) → IsRead bytes servers clients events [] → bytes ≡ first_line servers clients ++ event_lines events
 read_all_of bytes servers clients events read = read.front ∙ append-nil (first_line servers clients ++ event_lines events)
+
+-- a line that spells an event is read
+pub line_read : (rest text more : List ℕ) (read : Option Event) (event : Event) → IsCut rest text more → read ≡ Some event → Spells event_text IsEvent text read → ReadsEvent rest event more
+line_read rest text more read event cut is spells =
+    let spelt : IsEvent event × (text ≡ event_text event) = subst (Spells event_text IsEvent text) is spells in
+    record { fit = spelt.0; whole = cut.whole ∙ ap (λ t. line t ++ more) spelt.1 }
+
+-- a line that spells none is in front of no event
+pub line_not_read : (rest text more : List ℕ) (read : Option Event) → IsCut rest text more → read ≡ None → Spells event_text IsEvent text read → BeginsWithEvent rest → ⊥
+line_not_read rest text more read cut is spells = no_event_line rest text more cut (subst (Spells event_text IsEvent text) is spells)
+
+-- the line that is in no script
+pub stops : (bytes : List ℕ) (servers clients : ℕ) (events : List Event) (rest : List ℕ) (n : ℕ) → IsRead bytes servers clients events rest → rest ≢ [] → (BeginsWithEvent rest → ⊥) → n ≡ length events + 2 → IsBadLine bytes n
+stops bytes servers clients events rest n read more bad number =
+    inr (record {
+      servers = servers;
+      clients = clients;
+      events = events;
+      rest = rest;
+      size = read.size;
+      each = read.each;
+      front = read.front;
+      more = more;
+      bad = bad;
+      number = number;
+    })

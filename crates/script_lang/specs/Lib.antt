@@ -1,5 +1,7 @@
 pub mod Line
+pub mod Number
 pub mod Event
 pub mod Script
 pub mod Reading
+pub mod Rows
 pub mod Laws

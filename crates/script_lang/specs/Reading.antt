@@ -1,10 +1,11 @@
 -- What the reader of scripts answers.
-use Rattle.std.specs.Prelude.{◌≡◌, ℕ, List, ◌++◌, Result, Ok, Err}
+use Rattle.std.specs.Prelude.{◌≡◌, ◌≢◌, ℕ, List, ◌++◌, flat_map, codes, Option, None, Some, Result, Ok, Err}
 use Rattle.script_lang.specs.declared.script.Event.{Event}
 use Rattle.script_lang.specs.declared.script.Script.{Script}
 use Rattle.script_lang.specs.declared.read.ScriptStop.{ScriptStop}
 use Rattle.script_lang.specs.declared.read.ScriptStop.TheVariants.{BadLine, NoMemory}
 use Rattle.script_lang.specs.Line.{line}
+use Rattle.script_lang.specs.Number.{BeginsNoDigit}
 use Rattle.script_lang.specs.Event.{IsEvent, event_text}
 use Rattle.script_lang.specs.Script.{Parses, IsBadLine, IsSize, first_line}
 
@@ -22,3 +23,22 @@ pub record ReadsSize (bytes : List ℕ) (servers clients : ℕ) (rest : List ℕ
 pub record ReadsEvent (bytes : List ℕ) (event : Event) (rest : List ℕ) : Type 0 where
   pub fit : IsEvent event
   pub whole : bytes ≡ line (event_text event) ++ rest
+
+-- the bytes are a word behind a space, and then the rest
+pub record ReadsWord {item : Type 0} (word : item → List ℕ) (Fits : item → Type 0) (bytes : List ℕ) (read : item) (rest : List ℕ) : Type 0 where
+  pub fit : Fits read
+  pub whole : bytes ≡ codes " " ++ word read ++ rest
+  pub ends : BeginsNoDigit rest
+
+-- what is read is spelt by the bytes; nothing is where they spell nothing that fits
+abbrev pub Spells : {item : Type 0} → (item → List ℕ) → (item → Type 0) → List ℕ → Option item → Type 0
+Spells {item} text Fits bytes None = (one : item) → Fits one → bytes ≢ text one
+Spells {item} text Fits bytes (Some read) = Fits read × (bytes ≡ text read)
+
+-- the words of a list, each with a space before it
+abbrev pub words : {item : Type 0} → (item → List ℕ) → List item → List ℕ
+words {item} word items = flat_map (λ one. codes " " ++ word one) items
+
+-- a word in front is read in one way
+pub record IsReadOnce {item : Type 0} (word : item → List ℕ) (Fits : item → Type 0) : Type 0 where
+  pub once : (x y : item) (xs ys : List ℕ) → Fits x → Fits y → BeginsNoDigit xs → BeginsNoDigit ys → word x ++ xs ≡ word y ++ ys → (x ≡ y) × (xs ≡ ys)

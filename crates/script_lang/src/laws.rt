@@ -1,6 +1,6 @@
 //! Laws of the grammar. Each function does nothing: its contract is the law, whose proof is checked with it.
 
-ghost use Rattle.script_lang.specs.Laws.{BadLinesAreInNoScript, TheBadLineIsOne, ASpellingIsOfOneScript};
+ghost use Rattle.script_lang.specs.Laws.{BadLinesAreInNoScript, TheBadLineIsOne, ASpellingIsOfOneScript, EachKindOfLineIsSpeltSo};
 
 /// Bytes with a bad line spell no script.
 pub fn bad_lines_are_in_no_script()
@@ -15,4 +15,9 @@ pub fn the_bad_line_is_one()
 /// Bytes spell at most one script.
 pub fn a_spelling_is_of_one_script()
     ensures { ASpellingIsOfOneScript }
+{}
+
+/// This is how lines are spelt, one of each kind.
+pub fn each_kind_of_line_is_spelt_so()
+    ensures { EachKindOfLineIsSpeltSo }
 {}

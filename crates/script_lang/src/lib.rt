@@ -5,8 +5,11 @@
 //! answers the script that is spelt so, or the number of the first line that is in no script.
 #![tactic(auto)]
 
+mod events;
 pub mod laws;
 mod line;
+mod numbers;
+mod pairs;
 mod read;
 mod script;
 

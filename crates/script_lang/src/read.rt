@@ -1,16 +1,13 @@
 //! The reader of scripts.
 
-ghost use Rattle.std.specs.Prelude.{◌≡◌, ◌≢◌, ℕ, List, ◌++◌, IfSome, IfNone};
-ghost use Rattle.std.specs.Fmt.{decimal};
-ghost use Rattle.script_lang.specs.Line.{line};
-ghost use Rattle.script_lang.specs.Event.{IsNumber, IsEvent, event_text};
-ghost use Rattle.script_lang.specs.Script.{BeginsWithSize, BeginsWithEvent, first_line};
-ghost use Rattle.script_lang.specs.Reading.{Reads, ReadsSize, ReadsEvent};
+ghost use Rattle.std.specs.Prelude.{IfSome, IfNone};
+ghost use Rattle.script_lang.specs.Script.{BeginsWithSize};
+ghost use Rattle.script_lang.specs.Reading.{Reads, ReadsSize};
 
+use crate::events::event_of;
 use crate::line::{behind, split_line};
-use crate::{Event, Script, ScriptEvents};
-use kr_order::{ClientId, Command, NoMemory};
-use kr_text::read_number;
+use crate::{Script, ScriptEvents};
+use kr_order::NoMemory;
 use std::alloc::Global;
 use thiserror::Error;
 
@@ -46,8 +43,12 @@ pub fn read_script(alloc: Global, bytes: &[u8]) -> Result<Script, ScriptStop>
     };
     let mut events = ScriptEvents::new(alloc);
     while !rest.is_empty() {
-        let Some((event, more)) = event_line(rest) else {
-            return Err(ScriptStop::BadLine(events.len() as u64 + 2));
+        let line = events.len() as u64 + 2;
+        let Some((text, more)) = split_line(rest) else {
+            return Err(ScriptStop::BadLine(line));
+        };
+        let Some(event) = event_of(alloc, text)? else {
+            return Err(ScriptStop::BadLine(line));
         };
         events.push(event)?;
         rest = more;
@@ -66,40 +67,4 @@ fn size_line(bytes: &[u8]) -> Option<(u32, u32, &[u8])>
 {
     let rest = behind(bytes, b"cluster 1 1\n")?;
     Some((1, 1, rest))
-}
-
-// The event of the first line, and what follows it.
-fn event_line(bytes: &[u8]) -> Option<(Event, &[u8])>
-    ensures some { IfSome result (λ read. ReadsEvent bytes.now read.0 read.1.now) }
-    ensures none { IfNone result (BeginsWithEvent bytes.now → ⊥) }
-{
-    let (text, rest) = split_line(bytes)?;
-    let event = event_of(text)?;
-    Some((event, rest))
-}
-
-// The event that a line gives.
-fn event_of(text: &[u8]) -> Option<Event>
-    ensures some { IfSome result (λ event. IsEvent event × (text.now ≡ event_text event)) }
-    ensures none { IfNone result ((event : Event) → IsEvent event → text.now ≢ event_text event) }
-{
-    if let Some(number) = behind(text, b"create ") {
-        let client = number_of(number)?;
-        return Some(Event::Call {
-            client: ClientId(client),
-            command: Command::Create,
-        });
-    }
-    let number = behind(text, b"deliver ")?;
-    let k = number_of(number)?;
-    Some(Event::Deliver(u64::from(k)))
-}
-
-// The number from 1 on that the text spells.
-fn number_of(text: &[u8]) -> Option<u32>
-    ensures some { IfSome result (λ n. IsNumber n × (text.now ≡ decimal n)) }
-    ensures none { IfNone result ((n : ℕ) → IsNumber n → text.now ≢ decimal n) }
-{
-    let n = read_number(text, 4_294_967_295)?;
-    if n == 0 { None } else { Some(n as u32) }
 }

@@ -1,12 +1,27 @@
 //! Events and scripts.
 
-use kr_order::{ClientId, Command, Listed};
+use kr_order::{Asked, ClientId, Command, Listed, ServerId};
 
 /// One step of a run, as one line of a script has it.
 #[derive(Debug, Drop)]
 pub enum Event {
-    /// `create c`: the client begins the command.
-    Call { client: ClientId, command: Command },
+    /// `create c`, or `assign c P P ..` with a word `a!b` for each must and `a?b` for each prefer: the client
+    /// begins the command.
+    Call {
+        client: ClientId,
+        command: Command,
+    },
+    /// `query c s Q Q ..` with a word `a,b` for each pair: the client asks the server about the pairs.
+    Query {
+        client: ClientId,
+        server: ServerId,
+        pairs: Asked,
+    },
+    /// `work s w`: the server answers the queries that wait there, by so many workers.
+    Work {
+        server: ServerId,
+        workers: u32,
+    },
     /// `deliver k`: the addressee of packet k takes it.
     Deliver(u64),
 }

@@ -3,7 +3,7 @@
 ghost use Rattle.std.specs.Prelude.{◌≡◌};
 ghost use Rattle.kr_world.specs.FullBag.{AFullBagRefuses};
 ghost use Rattle.kr_world.specs.Run.{text_of};
-ghost use Rattle.kr_world.specs.Rows.{create_an_event, create_an_event_text, request_delivered_twice, request_delivered_twice_text, refused_steps, refused_steps_text, two_events, two_events_text};
+ghost use Rattle.kr_world.specs.Rows.{create_an_event, create_an_event_text, request_delivered_twice, request_delivered_twice_text, refused_steps, refused_steps_text, two_events, two_events_text, concurrent_events, concurrent_events_text, bound_events, bound_events_text};
 
 /// One server, one client, one create.
 pub fn one_create()
@@ -29,4 +29,14 @@ pub fn events_are_numbered_in_order()
 /// A full bag refuses each call of an idle client, and each delivery.
 pub fn a_full_bag_refuses()
     ensures { AFullBagRefuses }
+{}
+
+/// An answer is told once, and one to another query is not told.
+pub fn an_answer_is_told_once()
+    ensures { text_of concurrent_events ≡ concurrent_events_text }
+{}
+
+/// A must binds, a prefer against it is reversed, a must against it is refused, and queries tell so.
+pub fn a_must_binds()
+    ensures { text_of bound_events ≡ bound_events_text }
 {}

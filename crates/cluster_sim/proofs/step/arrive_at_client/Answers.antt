@@ -1,5 +1,5 @@
-use Rattle.std.proofs.Common.{◌≡◌, ◌-◌, ◌<◌, length, get_or, refl, sym, ap, ◌∙◌, subst, arith, None, Some}
-use Rattle.std.specs.Prelude.{slice_get, slice_set}
+use Rattle.std.proofs.Common.{◌≡◌, ◌-◌, ◌<◌, length, get_or, refl, ap, ◌∙◌, subst, arith, None, Some}
+use Rattle.std.specs.Prelude.{slice_set}
 use Rattle.std.specs.Vec.{with_item}
 use Rattle.std.proofs.lemmas.Option.{slice_get_read, same_Some}
 use Rattle.kr_world.specs.World.{client_at}
@@ -20,5 +20,5 @@ returns c = λ packet stands.
     let clients = with_item c.args.parts.now.clients c.saturating_sub-i.result c.take.new.self in
     let changed : clients.items ≡ slice_set nodes i c.take.new.self = ap (λ n. slice_set nodes n c.take.new.self) c.saturating_sub-i.ensures in
     let same : c.in-Some.packet.now ≡ packet = same_Some c.in-Some.packet.now packet (c.in-Some.ensures ∙ stands) in
-    let made = client_heard parts clients c.args.client node c.take.new.self c.in-Some.packet.now c.in_ok-heard.heard (record { told = c.telling.result; refused = None }) c.requires.whole there changed c.in_ok-heard.ensures refl c.telling.ensures in
-    subst (λ p. Makes (arrives_at_client (world_of parts) c.args.client p (client_at (world_of parts) c.args.client)) (record parts { clients = clients }) (record { told = c.telling.result; refused = None })) same made
+    let made = client_heard parts clients c.args.client node c.take.new.self c.in-Some.packet.now c.in_ok-heard.heard (record { told = c.telling.result; parts = Some (record { client = c.args.client; parts = c.in_ok-heard.heard.parts }); refused = None }) c.requires.whole there changed c.in_ok-heard.ensures refl c.telling.ensures refl in
+    subst (λ p. Makes (arrives_at_client (world_of parts) c.args.client p (client_at (world_of parts) c.args.client)) (record parts { clients = clients }) (record { told = c.telling.result; parts = Some (record { client = c.args.client; parts = c.in_ok-heard.heard.parts }); refused = None })) same made

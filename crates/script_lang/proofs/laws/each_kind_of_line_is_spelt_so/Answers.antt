@@ -1,0 +1,51 @@
+use Rattle.std.proofs.Common.{refl, arith, ℕ, ◌≤◌, []}
+use Rattle.std.specs.Prelude.{All}
+use Rattle.std.specs.Fmt.{digits}
+use Rattle.std.proofs.lemmas.List.Elements.{All-from_recursion}
+use Rattle.script_lang.specs.Number.{IsFromOneTo}
+use Rattle.script_lang.specs.Event.{IsEvent, IsEventNumber, IsPair, IsAskedPair}
+use Rattle.script_lang.specs.Rows.{must, prefer, asked, pairs_of_batch, pairs_of_query, each_kind_of_event}
+use Rattle.script_lang.proofs.laws.each_kind_of_line_is_spelt_so.Goals as goal
+
+in_range : (most n : ℕ) → 1 ≤ n → n ≤ most → IsFromOneTo most n
+in_range most n low high = record { low = low; high = high }
+
+must_fits : (a b : ℕ) → IsEventNumber a → IsEventNumber b → IsPair (must a b)
+must_fits a b fit fit' = record { first = fit; second = fit' }
+
+prefer_fits : (a b : ℕ) → IsEventNumber a → IsEventNumber b → IsPair (prefer a b)
+prefer_fits a b fit fit' = record { first = fit; second = fit' }
+
+asked_fits : (a b : ℕ) → IsEventNumber a → IsEventNumber b → IsAskedPair (asked a b)
+asked_fits a b fit fit' = record { first = fit; second = fit' }
+
+event_number : (n : ℕ) → 1 ≤ n → n ≤ 18446744073709551615 → IsEventNumber n
+event_number n low high = in_range 18446744073709551615 n low high
+
+batch_fits : All IsPair pairs_of_batch
+batch_fits = All-from_recursion IsPair pairs_of_batch (must_fits 1 2 (event_number 1 (omega arith) (omega arith)) (event_number 2 (omega arith) (omega arith)), (prefer_fits 3 18446744073709551615 (event_number 3 (omega arith) (omega arith)) (event_number 18446744073709551615 (omega arith) (omega arith)), tt))
+
+query_fits : All IsAskedPair pairs_of_query
+query_fits = All-from_recursion IsAskedPair pairs_of_query (asked_fits 1 2 (event_number 1 (omega arith) (omega arith)) (event_number 2 (omega arith) (omega arith)), (asked_fits 3 3 (event_number 3 (omega arith) (omega arith)) (event_number 3 (omega arith) (omega arith)), tt))
+
+each_fits : All IsEvent each_kind_of_event
+each_fits = All-from_recursion IsEvent each_kind_of_event (
+  record { client_fits = in_range 4294967295 1 (omega arith) (omega arith); command_fits = tt },
+  (
+    record { client_fits = in_range 4294967295 2 (omega arith) (omega arith); command_fits = record { most = omega arith; each = All-from_recursion IsPair [] tt } },
+    (
+      record { client_fits = in_range 4294967295 4294967295 (omega arith) (omega arith); command_fits = record { most = omega arith; each = batch_fits } },
+      (
+        record { client_fits = in_range 4294967295 1 (omega arith) (omega arith); server_fits = in_range 4294967295 2 (omega arith) (omega arith); some = omega arith; pairs_fit = record { most = omega arith; each = query_fits } },
+        (
+          record { server_fits = in_range 4294967295 1 (omega arith) (omega arith); workers_fit = in_range 8 8 (omega arith) (omega arith) },
+          (in_range 4294967295 4294967295 (omega arith) (omega arith), tt),
+        ),
+      ),
+    ),
+  ),
+)
+
+pub returns : goal.returns
+unfolding digits
+returns c = record { fit = record { size = record { one_server = refl; one_client = refl }; each = each_fits }; spelt = refl }
