@@ -1,1 +1,4 @@
-mod ServerLemmas
+pub mod PrefixLemmas
+pub mod ReplyLemmas
+pub mod HeedLemmas
+pub mod AdvanceLemmas

@@ -1,30 +1,28 @@
 -- What the calls of a server do.
-use Rattle.std.specs.Prelude.{ℕ, List, ◌≡◌, ◌++◌, true, false, [], Result, Ok, Err}
+use Rattle.std.specs.Prelude.{ℕ, List, ◌≡◌, ◌++◌, true, false, Option, None, Some, Result, Ok, Err}
 use Rattle.kr_order.specs.declared.ids.ClientId.{ClientId}
 use Rattle.kr_order.specs.declared.ids.EventId.{EventId}
-use Rattle.kr_order.specs.declared.ids.ServerId.{ServerId}
 use Rattle.kr_order.specs.declared.answer.Query.{Query}
 use Rattle.kr_order.specs.declared.ids.NoMemory.{NoMemory as OutOfMemory}
 use Rattle.kr_order.specs.declared.message.Packet.{Packet}
+use Rattle.kr_order.specs.declared.view.View.{View}
 use Rattle.kr_order.specs.Done.{done_of}
 use Rattle.kr_protocol.specs.Reaction.{Reaction}
-use Rattle.kr_protocol.specs.Server.{Server, server_takes}
-use Rattle.chain_server.specs.declared.server.Effects.{Effects}
+use Rattle.kr_protocol.specs.Server.{Server, acknowledged, server_takes}
+use Rattle.chain_server.specs.declared.effects.Effects.{Effects}
 use Rattle.chain_server.specs.Standing.{Standing}
 
-abbrev pub new_server : ServerId → Standing
-new_server id = record { server = record { id = id; log = []; waiting = [] }; failed = false }
-
--- a client's query
-abbrev pub query_of : ClientId → ℕ → ℕ → List (EventId × EventId) → Query
-query_of client q part pairs = record { client = client; q = q; part = part; pairs = pairs }
+-- the number of a server's view, 0 where it has none
+abbrev pub number_of : Option View → ℕ
+number_of None = 0
+number_of (Some view) = view.number
 
 -- the server does as this reaction says, and tells the entries that it has newly applied
 pub record Heeds (old : Standing) (reaction : Reaction Server) (effects : Effects) (new : Standing) : Type 0 where
   pub whole : old.failed ≡ false
   pub after : new ≡ record { server = reaction.after; failed = false }
   pub sent : effects.packets ≡ reaction.sent
-  pub committed : done_of reaction.after.log ≡ done_of old.server.log ++ effects.committed
+  pub committed : done_of (acknowledged reaction.after) ≡ done_of (acknowledged old.server) ++ effects.committed
 
 -- the server does as this reaction says, or has failed
 abbrev pub Does : Standing → Reaction Server → Result Effects OutOfMemory → Standing → Type 0
@@ -33,3 +31,19 @@ Does old reaction (Err stop) new = new.failed ≡ true
 
 abbrev pub Takes : Standing → Packet → Result Effects OutOfMemory → Standing → Type 0
 Takes old packet result new = Does old (server_takes old.server packet) result new
+
+-- the server goes on as this reaction says, and its packets come behind those before
+pub record Adds (before : Effects) (old : Standing) (reaction : Reaction Server) (effects : Effects) (new : Standing) : Type 0 where
+  pub after : new ≡ record { server = reaction.after; failed = false }
+  pub packets : effects.packets ≡ before.packets ++ reaction.sent
+  pub committed : effects.committed ≡ before.committed
+  pub same : acknowledged reaction.after ≡ acknowledged old.server
+
+-- it goes on so, or has failed
+abbrev pub AddsTo : Effects → Standing → Reaction Server → Result Effects OutOfMemory → Standing → Type 0
+AddsTo before old reaction (Ok effects) new = Adds before old reaction effects new
+AddsTo before old reaction (Err stop) new = new.failed ≡ true
+
+-- a client's query
+abbrev pub query_of : ClientId → ℕ → ℕ → List (EventId × EventId) → Query
+query_of client q part pairs = record { client = client; q = q; part = part; pairs = pairs }

@@ -1,2 +1,4 @@
 pub mod Standing
+pub mod Whole
+pub mod Parts
 pub mod Calls

@@ -1,9 +1,18 @@
-//! One server: its log, the state of what it has applied, and its reaction to each message.
+//! One server of a chain: its log, the board of what it has applied, and its reaction to each message.
 //!
 //! Contracts see a `Server` as the server of the protocol's definitions, and whether it has failed. A server
-//! fails where a call on it finds no memory; each later call that can answer `NoMemory` then does.
+//! fails where a call on it finds no memory; each later call that can answer `NoMemory` then does. What the
+//! board stands for is always the acknowledged prefix of the log, and queries are answered from it alone.
 #![tactic(auto)]
 
+mod advance;
+mod effects;
+mod packets;
+mod replies;
 mod server;
+#[cfg(test)]
+mod tests;
+mod told;
 
-pub use server::{Effects, Server};
+pub use effects::Effects;
+pub use server::Server;

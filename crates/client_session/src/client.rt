@@ -161,7 +161,10 @@ impl Client {
             return Err(NoMemory);
         }
         match &packet.message {
-            Message::Request { .. } | Message::Ask { .. } => Ok(Heard::nothing(self.alloc)),
+            Message::Request { .. }
+            | Message::Append { .. }
+            | Message::Ack { .. }
+            | Message::Ask { .. } => Ok(Heard::nothing(self.alloc)),
             Message::Replied { seq, placed } => self.hear_reply(*seq, placed),
             Message::Answered { q, part, told } => self.hear_answers(packet.from, *q, *part, told),
         }

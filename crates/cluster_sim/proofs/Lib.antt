@@ -1,2 +1,3 @@
 mod PartsLemmas
 mod LinesLemmas
+pub mod StartLemmas

@@ -1,10 +1,11 @@
 -- What a change of the parts makes of their world.
-use Rattle.std.proofs.Common.{◌≡◌, ℕ, ◌-◌, ◌<◌, false, List, [], ◌∷◌, ◌++◌, length, refl, sym, ap, ◌∙◌, subst, arith}
+use Rattle.std.proofs.Common.{◌≡◌, ℕ, ◌-◌, ◌<◌, Bool, true, false, ltb, List, [], ◌∷◌, ◌++◌, length, refl, sym, ap, ◌∙◌, subst, arith}
 use Rattle.std.specs.Prelude.{Option, None, Some, map, slice_get, slice_set, All}
 use Rattle.std.specs.Option.{option_map}
 use Rattle.std.specs.declared.vec.Vec.{Vec}
 use Rattle.std.specs.declared.alloc.Global.{Global}
-use Rattle.std.proofs.lemmas.List.{map-set, map-append, length-map}
+use Rattle.std.proofs.lemmas.Bool.{cond-true, cond-false, ltb-true, ltb-false}
+use Rattle.std.proofs.lemmas.List.{map-set, length-map}
 use Rattle.std.proofs.lemmas.List.Elements.{All-set}
 use Rattle.std.proofs.lemmas.Option.{slice_get-map, slice_get_within, none-some}
 use Rattle.kr_order.specs.declared.ids.ClientId.{ClientId}
@@ -16,24 +17,25 @@ use Rattle.kr_order.specs.declared.history.DoneEntry.{DoneEntry}
 use Rattle.kr_order.specs.declared.message.Packet.{Packet}
 use Rattle.kr_order.specs.Done.{done_from, done_of}
 use Rattle.kr_protocol.specs.Reaction.{Reaction}
-use Rattle.kr_protocol.specs.Server.{Server, server_takes, server_works}
+use Rattle.kr_protocol.specs.Server.{Server, acknowledged, server_takes, server_works}
 use Rattle.kr_protocol.specs.Client.{Client, begins, asks, client_takes}
 use Rattle.client_session.specs.declared.client.Heard.{Heard}
 use Rattle.client_session.specs.Standing.{Standing as ClientStanding}
 use Rattle.client_session.specs.Calls.{Opens, OpensQuery, Accepts}
-use Rattle.chain_server.specs.declared.server.Effects.{Effects}
+use Rattle.chain_server.specs.declared.effects.Effects.{Effects}
 use Rattle.chain_server.specs.Standing.{Standing as ServerStanding}
 use Rattle.chain_server.specs.Calls.{Heeds}
-use Rattle.kr_world.specs.World.{World, client_at, server_at}
+use Rattle.kr_world.specs.World.{World, client_at, server_at, longest}
 use Rattle.kr_world.specs.declared.refusal.Refusal.TheVariants.{NoSuchClient}
 use Rattle.kr_world.specs.Step.{call_refusal, query_refusal, told_to, parts_to, client_sends, client_calls, client_asks, server_reacts, works, arrives_at_client, arrives_at_server, step}
-use Rattle.kr_world.specs.Sound.{IsSound}
+use Rattle.kr_world.specs.Sound.{IsSound, IsSoundPacket}
 use Rattle.script_lang.specs.declared.script.Event.{Event}
-use Rattle.kr_world.proofs.StepLemmas.{at_index}
-use Rattle.kr_world.proofs.SoundLemmas.{any_reacts, worlds_sound}
+use Rattle.kr_world.proofs.SoundLemmas.{takes_within, work_within, worlds_sound}
+use Rattle.kr_world.proofs.ReactionLemmas.{IsWithinBounds, HistoryGrows}
+use Rattle.kr_world.proofs.ServerLemmas.{history_grows}
 use Rattle.cluster_sim.specs.declared.parts.Parts.{Parts}
 use Rattle.cluster_sim.specs.declared.parts.Noted.{Noted}
-use Rattle.cluster_sim.specs.Parts.{history_of, world_of, IsWhole, told_in, parts_in, Makes}
+use Rattle.cluster_sim.specs.Parts.{history_of, world_of, IsWhole, told_in, parts_in, noted, Makes}
 
 -- the node of a client in the parts is that of their world
 pub client_there : (parts : Parts) (client : ClientId) (node : ClientStanding) → slice_get parts.clients.items (client.0 - 1) ≡ Some node → client_at (world_of parts) client ≡ Some node.client
@@ -112,46 +114,66 @@ servers_whole : (old : List ServerStanding) (new : List ServerStanding) (i : ℕ
 servers_whole old new i node is whole all =
     subst (All (λ s. s.failed ≡ false)) (sym is) (All-set (λ s. s.failed ≡ false) old i node whole all)
 
--- what a server has newly applied is what its log has more
-log_more : (old new : List Entry) (committed : List DoneEntry) → done_of new ≡ done_of old ++ committed → new ≡ old ++ history_of committed
-log_more old new committed is =
-    sym (history_of-done_of new) ∙ ap history_of is ∙ map-append (λ (d : DoneEntry). d.entry) (done_of old) committed ∙ ap (λ h. h ++ history_of committed) (history_of-done_of old)
+-- the history and the journal once a server has gone on
+record Notes (w : World) (journal committed : List DoneEntry) (servers : List Server) (done : ℕ) : Type 0 where
+  history : history_of (noted journal done committed) ≡ longest w.history servers
+  dones : noted journal done committed ≡ done_of (longest w.history servers)
+
+notes : (w : World) (journal committed : List DoneEntry) (servers : List Server) (old after : Server) → w.history ≡ history_of journal → journal ≡ done_of (history_of journal) → done_of (acknowledged after) ≡ done_of (acknowledged old) ++ committed → HistoryGrows w.history servers old after → Notes w journal committed servers after.done
+notes w journal committed servers old after is whole applied grows = by_test (ltb (length journal) after.done) refl
+  where
+    counted : length journal ≡ length w.history
+    counted = sym (ap length is ∙ length-map journal (λ (d : DoneEntry). d.entry))
+
+    by_test : (more : Bool) → ltb (length journal) after.done ≡ more → Notes w journal committed servers after.done
+    by_test true test =
+        let grown = grows.more (omega (arith, counted, ltb-true (length journal) after.done test)) in
+        let now : noted journal after.done committed ≡ journal ++ committed = cond-true (ltb (length journal) after.done) (journal ++ committed) journal test in
+        let dones : journal ++ committed ≡ done_of (acknowledged after) = ap (λ l. l ++ committed) (whole ∙ ap done_of (sym is ∙ sym grown.1)) ∙ sym applied in
+        record {
+          history = ap history_of (now ∙ dones) ∙ history_of-done_of (acknowledged after) ∙ sym grown.0;
+          dones = now ∙ dones ∙ ap done_of (sym grown.0);
+        }
+    by_test false test =
+        let kept = grows.kept (omega (arith, counted, ltb-false (length journal) after.done test)) in
+        let now : noted journal after.done committed ≡ journal = cond-false (ltb (length journal) after.done) (journal ++ committed) journal test in
+        record {
+          history = ap history_of now ∙ sym is ∙ sym kept;
+          dones = now ∙ whole ∙ ap done_of (sym is ∙ sym kept);
+        }
 
 -- a server's reaction: its node, the bag and the journal have changed
-server_reacted : (parts : Parts) (servers : Vec ServerStanding Global) (bag : List Packet) (journal : List DoneEntry) (server : ServerId) (old new : ServerStanding) (reaction : Reaction Server) (effects : Effects) (noted : Noted) → IsWhole parts → slice_get parts.servers.items (server.0 - 1) ≡ Some old → servers.items ≡ slice_set parts.servers.items (server.0 - 1) new → Heeds old reaction effects new → bag ≡ parts.bag ++ effects.packets → journal ≡ parts.journal ++ effects.committed → noted ≡ record { told = None; parts = None; refused = None } → Makes (server_reacts (world_of parts) server reaction) (record parts { servers = servers; bag = bag; journal = journal }) noted
-server_reacted parts servers bag journal server old new reaction effects noted whole there is heeds sent noted_down quiet =
+server_reacted : (parts : Parts) (servers : Vec ServerStanding Global) (bag : List Packet) (journal : List DoneEntry) (server : ServerId) (old new : ServerStanding) (reaction : Reaction Server) (effects : Effects) (noting : Noted) → IsWhole parts → slice_get parts.servers.items (server.0 - 1) ≡ Some old → servers.items ≡ slice_set parts.servers.items (server.0 - 1) new → IsWithinBounds (world_of parts).servers (world_of parts).history old.server reaction → Heeds old reaction effects new → bag ≡ parts.bag ++ effects.packets → journal ≡ noted parts.journal new.server.done effects.committed → noting ≡ record { told = None; parts = None; refused = None } → Makes (server_reacts (world_of parts) server reaction) (record parts { servers = servers; bag = bag; journal = journal }) noting
+server_reacted parts servers bag journal server old new reaction effects noting whole there is bounds heeds sent noted_down quiet =
     let i = server.0 - 1 in
     let w = world_of parts in
     let at : server_at w server ≡ Some old.server = server_there parts server old there in
-    let applied : old.server.log ≡ w.history = at_index (λ s. s.log ≡ w.history) w.servers i old.server whole.sound.applied at in
     let node_after : new.server ≡ reaction.after = ap (λ (s : ServerStanding). s.server) heeds.after in
-    let more = history_of effects.committed in
-    let grows : reaction.after.log ≡ old.server.log ++ more = log_more old.server.log reaction.after.log effects.committed heeds.committed in
-    let on = any_reacts w.history more w.servers old.server reaction.after i whole.sound.one_server whole.sound.applied at grows in
+    let grows = history_grows w server old.server reaction at whole.sound bounds in
+    let note = notes w parts.journal effects.committed (slice_set w.servers i reaction.after) old.server reaction.after refl whole.journal heeds.committed grows in
     let bags : bag ≡ w.bag ++ reaction.sent = sent ∙ ap (λ ps. w.bag ++ ps) heeds.sent in
     let nodes = servers_after parts servers i new reaction.after is node_after in
-    let histories : history_of journal ≡ w.history ++ more = ap history_of noted_down ∙ map-append (λ (d : DoneEntry). d.entry) parts.journal effects.committed in
-    let log_now : reaction.after.log ≡ w.history ++ more = grows ∙ ap (λ h. h ++ more) applied in
+    let down : journal ≡ noted parts.journal reaction.after.done effects.committed = noted_down ∙ ap (λ (s : Server). noted parts.journal s.done effects.committed) node_after in
     record {
       after = (let f : List Server → List Packet → List Entry → World = λ ss ps h. record w { servers = ss; bag = ps; history = h } in
-          ap (λ ss. f ss bag (history_of journal)) nodes ∙ ap (λ ps. f (slice_set w.servers i reaction.after) ps (history_of journal)) bags ∙ ap (f (slice_set w.servers i reaction.after) (w.bag ++ reaction.sent)) (histories ∙ sym on.history_is));
+          ap (λ ss. f ss bag (history_of journal)) nodes ∙ ap (λ ps. f (slice_set w.servers i reaction.after) ps (history_of journal)) bags ∙ ap (f (slice_set w.servers i reaction.after) (w.bag ++ reaction.sent)) (ap history_of down ∙ note.history));
       told = ap (λ n. told_in n.told) quiet;
       parts = ap (λ n. parts_in n.parts) quiet;
       refused = ap (λ n. n.refused) quiet;
       servers = servers_whole parts.servers.items servers.items i new is (ap (λ (s : ServerStanding). s.failed) heeds.after) whole.servers;
       clients = whole.clients;
-      journal = noted_down ∙ ap (λ ds. ds ++ effects.committed) (whole.journal ∙ ap done_of (sym applied)) ∙ sym heeds.committed ∙ ap done_of (log_now ∙ sym histories);
+      journal = down ∙ note.dones ∙ ap done_of (sym (ap history_of down ∙ note.history));
     }
 
 -- a server takes a packet
-pub server_took : (parts : Parts) (servers : Vec ServerStanding Global) (bag : List Packet) (journal : List DoneEntry) (server : ServerId) (old new : ServerStanding) (packet : Packet) (effects : Effects) (noted : Noted) → IsWhole parts → slice_get parts.servers.items (server.0 - 1) ≡ Some old → servers.items ≡ slice_set parts.servers.items (server.0 - 1) new → Heeds old (server_takes old.server packet) effects new → bag ≡ parts.bag ++ effects.packets → journal ≡ parts.journal ++ effects.committed → noted ≡ record { told = None; parts = None; refused = None } → Makes (arrives_at_server (world_of parts) server packet (server_at (world_of parts) server)) (record parts { servers = servers; bag = bag; journal = journal }) noted
-server_took parts servers bag journal server old new packet effects noted whole there is heeds sent noted_down quiet =
-    subst (λ found. Makes (arrives_at_server (world_of parts) server packet found) (record parts { servers = servers; bag = bag; journal = journal }) noted) (sym (server_there parts server old there)) (server_reacted parts servers bag journal server old new (server_takes old.server packet) effects noted whole there is heeds sent noted_down quiet)
+pub server_took : (parts : Parts) (servers : Vec ServerStanding Global) (bag : List Packet) (journal : List DoneEntry) (server : ServerId) (old new : ServerStanding) (packet : Packet) (effects : Effects) (noting : Noted) → IsWhole parts → slice_get parts.servers.items (server.0 - 1) ≡ Some old → servers.items ≡ slice_set parts.servers.items (server.0 - 1) new → IsSoundPacket (world_of parts).servers packet → Heeds old (server_takes old.server packet) effects new → bag ≡ parts.bag ++ effects.packets → journal ≡ noted parts.journal new.server.done effects.committed → noting ≡ record { told = None; parts = None; refused = None } → Makes (arrives_at_server (world_of parts) server packet (server_at (world_of parts) server)) (record parts { servers = servers; bag = bag; journal = journal }) noting
+server_took parts servers bag journal server old new packet effects noting whole there is said heeds sent noted_down quiet =
+    subst (λ found. Makes (arrives_at_server (world_of parts) server packet found) (record parts { servers = servers; bag = bag; journal = journal }) noting) (sym (server_there parts server old there)) (server_reacted parts servers bag journal server old new (server_takes old.server packet) effects noting whole there is (takes_within (world_of parts) server packet old.server (server_there parts server old there) whole.sound said) heeds sent noted_down quiet)
 
 -- a server works
-pub server_worked : (parts : Parts) (servers : Vec ServerStanding Global) (bag : List Packet) (journal : List DoneEntry) (server : ServerId) (old new : ServerStanding) (effects : Effects) (noted : Noted) → IsWhole parts → slice_get parts.servers.items (server.0 - 1) ≡ Some old → servers.items ≡ slice_set parts.servers.items (server.0 - 1) new → Heeds old (server_works old.server) effects new → bag ≡ parts.bag ++ effects.packets → journal ≡ parts.journal ++ effects.committed → noted ≡ record { told = None; parts = None; refused = None } → Makes (works (world_of parts) server (server_at (world_of parts) server)) (record parts { servers = servers; bag = bag; journal = journal }) noted
-server_worked parts servers bag journal server old new effects noted whole there is heeds sent noted_down quiet =
-    subst (λ found. Makes (works (world_of parts) server found) (record parts { servers = servers; bag = bag; journal = journal }) noted) (sym (server_there parts server old there)) (server_reacted parts servers bag journal server old new (server_works old.server) effects noted whole there is heeds sent noted_down quiet)
+pub server_worked : (parts : Parts) (servers : Vec ServerStanding Global) (bag : List Packet) (journal : List DoneEntry) (server : ServerId) (old new : ServerStanding) (effects : Effects) (noting : Noted) → IsWhole parts → slice_get parts.servers.items (server.0 - 1) ≡ Some old → servers.items ≡ slice_set parts.servers.items (server.0 - 1) new → Heeds old (server_works old.server) effects new → bag ≡ parts.bag ++ effects.packets → journal ≡ noted parts.journal new.server.done effects.committed → noting ≡ record { told = None; parts = None; refused = None } → Makes (works (world_of parts) server (server_at (world_of parts) server)) (record parts { servers = servers; bag = bag; journal = journal }) noting
+server_worked parts servers bag journal server old new effects noting whole there is heeds sent noted_down quiet =
+    subst (λ found. Makes (works (world_of parts) server found) (record parts { servers = servers; bag = bag; journal = journal }) noting) (sym (server_there parts server old there)) (server_reacted parts servers bag journal server old new (server_works old.server) effects noting whole there is (work_within (world_of parts) server old.server (server_there parts server old there) whole.sound) heeds sent noted_down quiet)
 
 -- a client whose call is not refused is there
 pub caller_there : (parts : Parts) (client : ClientId) (found : Option Client) → client_at (world_of parts) client ≡ found → call_refusal (world_of parts) found ≡ None → client.0 - 1 < length parts.clients.items

@@ -1,5 +1,5 @@
 -- Which world the parts of a cluster stand for.
-use Rattle.std.specs.Prelude.{◌≡◌, ℕ, List, [], ◌∷◌, ◌++◌, length, drop, map, false, All, Option, None, Some}
+use Rattle.std.specs.Prelude.{◌≡◌, ℕ, List, [], ◌∷◌, ◌++◌, length, drop, map, false, nat_lt, if◌then◌else◌, All, Option, None, Some}
 use Rattle.kr_order.specs.declared.ids.ClientId.{ClientId}
 use Rattle.kr_order.specs.declared.answer.ToldPart.{ToldPart}
 use Rattle.kr_order.specs.declared.history.Entry.{Entry}
@@ -20,7 +20,12 @@ history_of journal = map (λ done. done.entry) journal
 
 abbrev pub world_of : Parts → World
 world_of parts =
-    record { servers = map (λ s. s.server) parts.servers.items; clients = map (λ c. c.client) parts.clients.items; bag = parts.bag; history = history_of parts.journal }
+    record { views = parts.views; servers = map (λ s. s.server) parts.servers.items; clients = map (λ c. c.client) parts.clients.items; bag = parts.bag; history = history_of parts.journal }
+
+-- the journal once a server has applied so many entries in all, and newly applied these: they are history where the
+-- server has applied more than was
+abbrev pub noted : List DoneEntry → ℕ → List DoneEntry → List DoneEntry
+noted journal done committed = if nat_lt (length journal) done then journal ++ committed else journal
 
 -- no node has failed, the journal has the replies of its history, and the world is sound
 pub record IsWhole (parts : Parts) : Type 0 where

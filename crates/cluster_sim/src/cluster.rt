@@ -9,17 +9,16 @@ ghost use Rattle.cluster_sim.specs.Steps.{Steps};
 
 use crate::lines::{Lines, end_lines, step_lines};
 use crate::parts::Parts;
+use crate::start::{callers, first_view, founders};
 use crate::step::step;
-use chain_server::Server;
-use client_session::Client;
-use kr_order::{ClientId, DoneList, NoMemory, Packets, ServerId};
+use kr_order::{DoneList, Listed, NoMemory, Packets};
 use script_lang::Event;
 use std::alloc::Global;
 use std::marker::Model;
 use std::thread::Threads;
 
 /// A cluster of servers and clients in one process.
-#[derive(Debug, Drop)]
+#[derive(Drop)]
 pub struct Cluster {
     alloc: Global,
     parts: Parts,
@@ -40,19 +39,21 @@ impl Model for Cluster {
 }
 
 impl Cluster {
-    /// A cluster of one server and one client, before its first step. `NoMemory` comes where there is no memory
-    /// for the nodes.
+    /// A cluster of so many servers, which are one chain in the order of their numbers, and so many clients, before
+    /// its first step. `NoMemory` comes where there is no memory for the nodes.
     pub fn new(alloc: Global, servers: u32, clients: u32) -> Result<Cluster, NoMemory>
         requires { IsSize servers clients }
-        ensures { IfOk result (λ cluster. cluster ≡ record { world = first_world; failed = false }) }
+        ensures { IfOk result (λ cluster. cluster ≡ record { world = first_world servers clients; failed = false }) }
     {
-        let mut nodes = Vec::new(alloc);
-        nodes.push(Server::founder(alloc, ServerId(1)))?;
-        let mut callers = Vec::new(alloc);
-        callers.push(Client::new(alloc, ClientId(1)))?;
+        let view = first_view(alloc, servers)?;
+        let nodes = founders(alloc, &view, servers)?;
+        let callers = callers(alloc, clients)?;
+        let mut views = Listed::new(alloc);
+        views.push(view)?;
         Ok(Cluster {
             alloc,
             parts: Parts {
+                views,
                 servers: nodes,
                 clients: callers,
                 bag: Packets::new(alloc),
@@ -64,7 +65,7 @@ impl Cluster {
 
     /// Does one step, and answers its lines. A step that is refused changes nothing and answers a line that
     /// says why. After `NoMemory` the cluster has failed.
-    pub fn step<R: Threads + Sync>(&mut self, _rt: &R, event: &Event) -> Result<Lines, NoMemory>
+    pub fn step<R: Threads + Sync>(&mut self, rt: &R, event: &Event) -> Result<Lines, NoMemory>
         ensures { Steps self.old event.now result self.new }
     {
         if self.failed {
@@ -73,7 +74,7 @@ impl Cluster {
         self.failed = true;
         let entries = self.parts.journal.len();
         let sent = self.parts.bag.len();
-        let noted = step(self.alloc, &mut self.parts, event)?;
+        let noted = step(rt, self.alloc, &mut self.parts, event)?;
         let lines = step_lines(self.alloc, entries, sent, &self.parts, &noted)?;
         self.failed = false;
         Ok(lines)

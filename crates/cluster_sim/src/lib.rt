@@ -8,6 +8,7 @@
 mod cluster;
 mod lines;
 mod parts;
+mod start;
 mod step;
 
 pub use cluster::Cluster;

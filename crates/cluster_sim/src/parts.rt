@@ -1,16 +1,19 @@
-//! The parts of a cluster: its nodes, every packet that was sent, and the journal of the history.
+//! The parts of a cluster: the manager's views, the nodes, every packet that was sent, and the journal of the
+//! history.
 
 ghost use Rattle.std.specs.Prelude.{◌≡◌, None};
 
 use chain_server::Server;
 use client_session::Client;
-use kr_order::{ClientId, DoneList, Packets, ToldReply};
+use kr_order::{ClientId, DoneList, Listed, Packets, ToldReply, View};
 use kr_world::Refusal;
+use order_state::PlainBoard;
 
 /// The parts of a cluster.
-#[derive(Debug, Drop)]
+#[derive(Drop)]
 pub struct Parts {
-    pub servers: Vec<Server>,
+    pub views: Listed<View>,
+    pub servers: Vec<Server<PlainBoard>>,
     pub clients: Vec<Client>,
     pub bag: Packets,
     pub journal: DoneList,

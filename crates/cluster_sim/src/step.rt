@@ -1,18 +1,19 @@
 //! The steps of a cluster: why an event is refused, and what it does else.
 
-ghost use Rattle.std.specs.Prelude.{◌≡◌, ◌-◌, ◌<◌, ◌≤◌, length, slice_get, IfOk, None, Some};
+ghost use Rattle.std.specs.Prelude.{◌≡◌, ◌-◌, ◌<◌, ◌≤◌, length, slice_get, IfOk, OnOk, None, Some};
 ghost use Rattle.kr_order.specs.declared.message.Packet.{Packet};
 ghost use Rattle.script_lang.specs.Event.{IsEvent};
 ghost use Rattle.kr_world.specs.World.{client_at, server_at, packet_at};
 ghost use Rattle.kr_world.specs.Step.{refusal_of, call_refusal, query_refusal, work_refusal, deliver_refusal, is_full, act, step as world_step, told_to, client_calls, client_asks, works, arrives_at_client, arrives_at_server, arrives, delivers};
-ghost use Rattle.cluster_sim.specs.Parts.{world_of, IsWhole, Makes, told_in};
+ghost use Rattle.cluster_sim.specs.Parts.{world_of, IsWhole, Makes, told_in, noted};
 
 use crate::parts::{Noted, Parts, PartsTelling, Telling};
 use client_session::CallStop;
-use kr_order::{Asked, ClientId, Command, Copied, NoMemory, Node, ServerId, ToldReply};
+use kr_order::{Asked, ClientId, Command, Copied, DoneList, NoMemory, Node, ServerId, ToldReply};
 use kr_world::Refusal;
 use script_lang::Event;
 use std::alloc::Global;
+use std::thread::Threads;
 
 // From this many packets on, no step that may send is taken.
 const BAG_LIMIT: usize = 65_000;
@@ -150,8 +151,23 @@ fn ask(
     }
 }
 
+// What a server has newly applied is history where this server has applied more than was.
+fn note(journal: &mut DoneList, done: u64, committed: DoneList) -> Result<(), NoMemory>
+    ensures { OnOk result (journal.new ≡ noted journal.old done committed) }
+{
+    if (journal.len() as u64) < done {
+        journal.append(committed)?;
+    }
+    Ok(())
+}
+
 // The server answers the queries that wait at it.
-fn work(parts: &mut Parts, server: ServerId) -> Result<Noted, NoMemory>
+fn work<R: Threads + Sync>(
+    rt: &R,
+    parts: &mut Parts,
+    server: ServerId,
+    workers: u32,
+) -> Result<Noted, NoMemory>
     requires whole { IsWhole parts.old }
     ensures { IfOk result (Makes (works (world_of parts.old) server (server_at (world_of parts.old) server)) parts.new) }
 {
@@ -159,9 +175,11 @@ fn work(parts: &mut Parts, server: ServerId) -> Result<Noted, NoMemory>
     if i >= parts.servers.len() {
         return Ok(Noted::nothing());
     }
-    let answered = parts.servers[i].work()?;
-    parts.bag.append(answered.packets)?;
-    parts.journal.append(answered.committed)?;
+    let node = &mut parts.servers[i];
+    let effects = node.work(rt, workers)?;
+    let done = node.done();
+    parts.bag.append(effects.packets)?;
+    note(&mut parts.journal, done, effects.committed)?;
     Ok(Noted::nothing())
 }
 
@@ -212,9 +230,11 @@ fn arrive_at_server(parts: &mut Parts, server: ServerId, k: usize) -> Result<Not
     let Some(packet) = parts.bag.get(k) else {
         return Ok(Noted::nothing());
     };
-    let effects = parts.servers[i].take(packet)?;
+    let node = &mut parts.servers[i];
+    let effects = node.take(packet)?;
+    let done = node.done();
     parts.bag.append(effects.packets)?;
-    parts.journal.append(effects.committed)?;
+    note(&mut parts.journal, done, effects.committed)?;
     Ok(Noted::nothing())
 }
 
@@ -235,7 +255,12 @@ fn deliver(parts: &mut Parts, k: u64) -> Result<Noted, NoMemory>
 }
 
 // Does what an event does that is not refused.
-fn act(alloc: Global, parts: &mut Parts, event: &Event) -> Result<Noted, NoMemory>
+fn act<R: Threads + Sync>(
+    rt: &R,
+    alloc: Global,
+    parts: &mut Parts,
+    event: &Event,
+) -> Result<Noted, NoMemory>
     requires whole { IsWhole parts.old }
     requires free { refusal_of (world_of parts.old) event.now ≡ None }
     ensures { IfOk result (Makes (act (world_of parts.old) event.now) parts.new) }
@@ -248,12 +273,17 @@ fn act(alloc: Global, parts: &mut Parts, event: &Event) -> Result<Noted, NoMemor
             pairs,
         } => ask(parts, *client, *server, pairs),
         Event::Deliver(k) => deliver(parts, *k),
-        Event::Work { server, .. } => work(parts, *server),
+        Event::Work { server, workers } => work(rt, parts, *server, *workers),
     }
 }
 
 /// Does what the event does to the parts, and answers what is to be noted of it.
-pub fn step(alloc: Global, parts: &mut Parts, event: &Event) -> Result<Noted, NoMemory>
+pub fn step<R: Threads + Sync>(
+    rt: &R,
+    alloc: Global,
+    parts: &mut Parts,
+    event: &Event,
+) -> Result<Noted, NoMemory>
     requires { IsWhole parts.old }
     ensures { IfOk result (Makes (world_step (world_of parts.old) event.now) parts.new) }
 {
@@ -263,6 +293,6 @@ pub fn step(alloc: Global, parts: &mut Parts, event: &Event) -> Result<Noted, No
             parts: None,
             refused: Some(why),
         }),
-        None => act(alloc, parts, event),
+        None => act(rt, alloc, parts, event),
     }
 }

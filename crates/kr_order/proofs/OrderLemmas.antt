@@ -1,12 +1,12 @@
 -- Paths of pairs: they go on over more pairs, can be joined, and close no cycle where a pair is added that the
 -- order doesn't forbid.
-use Rattle.std.proofs.Common.{◌≡◌, ◌⊎◌, ℕ, Bool, true, false, cond, ◌&&◌, ◌||◌, eqb, List, [], ◌∷◌, ◌++◌, refl, sym, ap, ◌∙◌, subst, inl, inr}
+use Rattle.std.proofs.Common.{◌≡◌, ◌⊎◌, ℕ, ◌+◌, ◌<◌, Bool, true, false, cond, ◌&&◌, ◌||◌, eqb, List, [], ◌∷◌, ◌++◌, length, get_or, take, refl, sym, ap, ◌∙◌, subst, inl, inr}
 use Rattle.std.specs.Prelude.{reverse}
 use Rattle.std.proofs.lemmas.Bool.{and_from, and_parts, both_ways, eq-eqb, eqb-true, eqb-false, false_from_ne_true, or_cases, or_left, or_right, or_parts}
-use Rattle.std.proofs.lemmas.List.{reverse-append}
+use Rattle.std.proofs.lemmas.List.{reverse-append, take_more}
 use Rattle.kr_order.specs.Front.{IsFrontOf}
 use Rattle.kr_order.specs.Order.{leads, reach, IsAcyclic, add}
-use Rattle.kr_order.proofs.FrontLemmas.{IsFrontOf-refl, IsFrontOf-append}
+use Rattle.kr_order.proofs.FrontLemmas.{IsFrontOf-refl, IsFrontOf-append, IsFrontOf-take}
 
 -- what is before over one pair more
 pub reach-push : (pairs : List (ℕ × ℕ)) (x y a b : ℕ) → reach (pairs ++ (x, y) ∷ []) a b ≡ (reach pairs a b || ((eqb a x || reach pairs a x) && (eqb y b || reach pairs y b)))
@@ -79,6 +79,18 @@ reach-trans pairs a b c ab bc = leads-trans (reverse pairs) a b c ab bc
 pub reach_more : (old new : List (ℕ × ℕ)) (a b : ℕ) → IsFrontOf old new → reach old a b ≡ true → reach new a b ≡ true
 reach_more old new a b front path =
     subst (λ newest. leads newest a b ≡ true) (sym (ap reverse front.is ∙ reverse-append old front.more)) (leads_more (reverse front.more) (reverse old) a b path)
+
+-- a pair that comes last puts its first event before its second
+reach_last : (pairs : List (ℕ × ℕ)) (x y : ℕ) → reach (pairs ++ (x, y) ∷ []) x y ≡ true
+reach_last pairs x y =
+    reach-push pairs x y x y ∙ or_right (reach pairs x y) ((eqb x x || reach pairs x x) && (eqb y y || reach pairs y y)) (and_from (eqb x x || reach pairs x x) (eqb y y || reach pairs y y) (or_left (eqb x x) (reach pairs x x) (eq-eqb x x refl)) (or_left (eqb y y) (reach pairs y y) (eq-eqb y y refl)))
+
+-- each pair of the order does
+pub reach_pair : (pairs : List (ℕ × ℕ)) (i : ℕ) (d : ℕ × ℕ) → i < length pairs → reach pairs (get_or pairs i d).0 (get_or pairs i d).1 ≡ true
+reach_pair pairs i d below =
+    let pair = get_or pairs i d in
+    let last : reach (take (i + 1) pairs) pair.0 pair.1 ≡ true = subst (λ front. reach front pair.0 pair.1 ≡ true) (sym (take_more pairs i d below)) (reach_last (take i pairs) pair.0 pair.1) in
+    reach_more (take (i + 1) pairs) pairs pair.0 pair.1 (IsFrontOf-take (i + 1) pairs) last
 
 -- in an order without a cycle an event before another is not behind it
 pub never_back : (pairs : List (ℕ × ℕ)) (a b : ℕ) → IsAcyclic pairs → reach pairs a b ≡ true → reach pairs b a ≡ false

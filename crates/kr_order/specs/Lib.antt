@@ -8,6 +8,7 @@ pub mod Pairs
 pub mod Reply
 pub mod Answer
 pub mod Done
+pub mod View
 pub mod Text
 pub mod Laws
 pub mod Rows

@@ -22,7 +22,7 @@ use Rattle.kr_order.specs.declared.history.DoneEntry.{DoneEntry}
 use Rattle.kr_order.specs.declared.message.Node.{Node}
 use Rattle.kr_order.specs.declared.message.Node.TheVariants.{Manager, Client, Server}
 use Rattle.kr_order.specs.declared.message.Message.{Message}
-use Rattle.kr_order.specs.declared.message.Message.TheVariants.{Request, Replied, Ask, Answered}
+use Rattle.kr_order.specs.declared.message.Message.TheVariants.{Request, Append, Ack, Replied, Ask, Answered}
 
 -- a client
 abbrev pub client_text : ClientId → List ℕ
@@ -111,6 +111,8 @@ part_text part =
 -- what a packet's line says of its message
 abbrev pub message_text : Message → List ℕ
 message_text (Request seq command) = codes "request " ++ decimal seq
+message_text (Append first entries) = codes "append " ++ decimal first ++ codes " " ++ decimal (length entries)
+message_text (Ack done len) = codes "ack " ++ decimal done ++ codes " " ++ decimal len
 message_text (Replied seq placed) = codes "reply " ++ decimal seq ++ codes " " ++ decimal placed.place
 message_text (Ask q part pairs) = codes "ask " ++ decimal q ++ codes " " ++ decimal part ++ codes " " ++ decimal (length pairs)
 message_text (Answered q part told) = codes "answer " ++ decimal q ++ codes " " ++ decimal part ++ codes " " ++ decimal told.entry

@@ -161,6 +161,11 @@ impl fmt::Display for Message {
     fn fmt<W: fmt::Write>(&self, f: &mut fmt::Formatter<W>) -> fmt::Result {
         match self {
             Message::Request { seq, .. } => write!(f, "request {seq}"),
+            Message::Append { first, entries } => {
+                let count = entries.len();
+                write!(f, "append {first} {count}")
+            }
+            Message::Ack { done, len } => write!(f, "ack {done} {len}"),
             Message::Replied { seq, placed } => {
                 let place = placed.place;
                 write!(f, "reply {seq} {place}")

@@ -1,6 +1,7 @@
 //! Numbers of events, clients and servers, and the error of a call that found no memory.
 
-use std::alloc::{AllocError, AllocFailed};
+use crate::Copied;
+use std::alloc::{AllocError, AllocFailed, Global};
 use thiserror::Error;
 
 /// The number of an event, from 1. The k-th create of the history gives event k.
@@ -29,5 +30,11 @@ impl From<AllocError> for NoMemory {
 impl<T: Drop> From<AllocFailed<T>> for NoMemory {
     fn from(_: AllocFailed<T>) -> Self {
         NoMemory
+    }
+}
+
+impl Copied for ServerId {
+    fn copy(&self, _alloc: Global) -> Result<Self, NoMemory> {
+        Ok(*self)
     }
 }

@@ -3,7 +3,7 @@
 ghost use Rattle.std.specs.Prelude.{◌≡◌, [], ◌∷◌, ◌++◌, length, slice_get, IfOk, OnOk, OnErr};
 ghost use Rattle.std.specs.Option.{option_copied};
 
-use crate::{DoneEntry, Entry, NoMemory, Packet};
+use crate::{DoneEntry, Entry, NoMemory, Packet, ServerId};
 use std::alloc::Global;
 use std::marker::Model;
 
@@ -111,6 +111,9 @@ impl<T: Copied + Drop> Listed<T> {
 
 /// Entries, in the order of their places.
 pub type Entries = Listed<Entry>;
+
+/// Servers, in the order of a chain.
+pub type Servers = Listed<ServerId>;
 
 /// Entries with their places and replies, in the order of their places.
 pub type DoneList = Listed<DoneEntry>;

@@ -1,6 +1,6 @@
 //! The parties to the protocol, and the packets that they send.
 
-use crate::{Asked, ClientId, Command, Copied, NoMemory, Placed, ServerId, Told};
+use crate::{Asked, ClientId, Command, Copied, Entries, NoMemory, Placed, ServerId, Told};
 use std::alloc::Global;
 
 /// A party to the protocol.
@@ -16,6 +16,10 @@ pub enum Node {
 pub enum Message {
     /// A client asks a server to do its command of this sequence number.
     Request { seq: u64, command: Command },
+    /// A server passes entries of its log on to the next one, from the place `first` on.
+    Append { first: u64, entries: Entries },
+    /// A server tells the one before it how many entries are acknowledged to it, and how many its log has.
+    Ack { done: u64, len: u64 },
     /// A server tells a client the reply of its command of this sequence number.
     Replied { seq: u64, placed: Placed },
     /// A client asks a server about pairs of events. `q` is the number of its query, from 1; `part` is 1 for
@@ -39,6 +43,14 @@ impl Copied for Message {
             Message::Request { seq, command } => Ok(Message::Request {
                 seq: *seq,
                 command: command.copy(alloc)?,
+            }),
+            Message::Append { first, entries } => Ok(Message::Append {
+                first: *first,
+                entries: entries.copy()?,
+            }),
+            Message::Ack { done, len } => Ok(Message::Ack {
+                done: *done,
+                len: *len,
             }),
             Message::Replied { seq, placed } => Ok(Message::Replied {
                 seq: *seq,

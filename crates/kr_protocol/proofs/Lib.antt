@@ -1,1 +1,1 @@
-mod Repeats
+pub mod Repeats

@@ -15,7 +15,7 @@ use Rattle.kr_order.specs.declared.answer.ToldPart.{ToldPart}
 use Rattle.kr_order.specs.declared.message.Node as nodes
 use Rattle.kr_order.specs.declared.message.Node.TheVariants.{Manager, Client as ToClient, Server}
 use Rattle.kr_order.specs.declared.message.Message.{Message}
-use Rattle.kr_order.specs.declared.message.Message.TheVariants.{Request, Replied, Ask, Answered}
+use Rattle.kr_order.specs.declared.message.Message.TheVariants.{Request, Append, Ack, Replied, Ask, Answered}
 use Rattle.kr_order.specs.declared.message.Packet.{Packet}
 use Rattle.kr_protocol.specs.Reaction.{Reaction}
 
@@ -114,6 +114,8 @@ answers_from client (Server server) q part told = after_answers client client.as
 
 abbrev pub message_to : Client → nodes.Node → Message → Hearing
 message_to client from (Request seq command) = unheard client
+message_to client from (Append first entries) = unheard client
+message_to client from (Ack done len) = unheard client
 message_to client from (Replied seq placed) = after_reply client client.call seq placed
 message_to client from (Ask q part pairs) = unheard client
 message_to client from (Answered q part told) = answers_from client from q part told

@@ -1,53 +1,214 @@
--- One server, which is the whole chain: it takes requests, and replies to them.
-use Rattle.std.specs.Prelude.{length, map, nat_le, ℕ, List, [], ◌∷◌, ◌++◌, ◌==◌, nat_lt, if◌then◌else◌, Option, None, Some}
+-- One server of a chain: what it does with each message, and when it works.
+use Rattle.std.specs.Prelude.{length, map, take, drop, min, max, nat_le, ℕ, ◌+◌, ◌-◌, List, [], ◌∷◌, ◌++◌, ◌==◌, nat_lt, find, is_some, Bool, false, ◌&&◌, if◌then◌else◌, Option, None, Some}
 use Rattle.kr_order.specs.declared.ids.ClientId.{ClientId}
 use Rattle.kr_order.specs.declared.ids.ServerId.{ServerId}
 use Rattle.kr_order.specs.declared.ids.EventId.{EventId}
 use Rattle.kr_order.specs.declared.answer.Answer.{Answer}
 use Rattle.kr_order.specs.declared.answer.Query.{Query}
-use Rattle.kr_order.specs.Answer.{answer_to}
+use Rattle.kr_order.specs.Answer.{answer_to, partial}
 use Rattle.kr_order.specs.declared.history.Command.{Command}
 use Rattle.kr_order.specs.declared.history.Entry.{Entry}
 use Rattle.kr_order.specs.declared.history.DoneEntry.{DoneEntry}
 use Rattle.kr_order.specs.declared.message.Node as nodes
 use Rattle.kr_order.specs.declared.message.Node.TheVariants.{Manager, Client, Server as FromServer}
 use Rattle.kr_order.specs.declared.message.Message.{Message}
-use Rattle.kr_order.specs.declared.message.Message.TheVariants.{Request, Replied, Ask, Answered}
+use Rattle.kr_order.specs.declared.message.Message.TheVariants.{Request, Append, Ack, Replied, Ask, Answered}
 use Rattle.kr_order.specs.declared.message.Packet.{Packet}
-use Rattle.kr_order.specs.Done.{done_after, done_of, last_of}
+use Rattle.kr_order.specs.declared.view.View.{View}
+use Rattle.kr_order.specs.History.{highest_seq}
+use Rattle.kr_order.specs.Done.{done_of, last_of}
+use Rattle.kr_order.specs.View.{in_chain, next_of, prev_of, is_tail, is_head}
 use Rattle.kr_protocol.specs.Reaction.{Reaction, ignored}
 
--- a server: the commands in its log, all of which it has applied, and the queries that wait at it
+-- a server: the commands in its log, how many of them are acknowledged, the view that it has adopted, how many
+-- entries the next server is known to have, and the queries that wait
 pub record Server : Type 0 where
   pub id : ServerId
   pub log : List Entry
+  pub done : ℕ
+  pub view : Option View
+  pub fed : ℕ
   pub waiting : List Query
 
--- the reply of an applied entry, for the client that asks
-abbrev pub reply_packet : ServerId → ClientId → DoneEntry → Packet
-reply_packet id client done =
-    record { from = FromServer id; to = Client client; message = Replied done.entry.seq (record { place = done.place; reply = done.reply }) }
+-- a server of the first view, with nothing in its log
+abbrev pub founder : View → ServerId → Server
+founder view id = record { id = id; log = []; done = 0; view = Some view; fed = 0; waiting = [] }
 
--- the entry goes to the end of the log, is applied, and its client is told
+-- the acknowledged prefix of its log: all that it has applied, and answers from
+abbrev pub acknowledged : Server → List Entry
+acknowledged server = take server.done server.log
+
+-- what the view says of the server, where it has one
+abbrev pub viewed : {X : Type 0} → X → (View → ServerId → X) → Option View → ServerId → X
+viewed none says None id = none
+viewed none says (Some view) id = says view id
+
+-- it is a member of the chain
+abbrev pub is_member : Server → Bool
+is_member server = viewed false in_chain server.view server.id
+
+-- it is the first member
+abbrev pub is_first : Server → Bool
+is_first server = viewed false is_head server.view server.id
+
+-- it is the last member, and none is being added behind it
+abbrev pub is_at_tail : Server → Bool
+is_at_tail server = viewed false is_tail server.view server.id
+
+-- who stands before it in the chain
+abbrev pub prev : Server → Option ServerId
+prev server = viewed None prev_of server.view server.id
+
+-- who follows it
+abbrev pub next : Server → Option ServerId
+next server = viewed None next_of server.view server.id
+
+-- this is that server
+abbrev pub is_server : Option ServerId → ServerId → Bool
+is_server None id = false
+is_server (Some server) id = server.0 == id.0
+
+-- the server afterwards, and what it sends
+abbrev pub sends : Server → List Packet → Reaction Server
+sends server sent = record { after = server; sent = sent }
+
+-- one reaction, and then another of the server that the first has left
+abbrev pub follows : Reaction Server → (Server → Reaction Server) → Reaction Server
+follows first goes_on =
+    let second = goes_on first.after in sends second.after (first.sent ++ second.sent)
+
+-- so many entries are sent at once at the most
+abbrev pub most_entries : ℕ
+most_entries = 16
+
+-- the entries that the next server is not known to have, up to so many
+abbrev pub next_entries : Server → List Entry
+next_entries server = take most_entries (drop server.fed server.log)
+
+abbrev pub window_to : Server → Option ServerId → List Packet
+window_to server None = []
+window_to server (Some to) =
+    if nat_lt server.fed (length server.log) then record { from = FromServer server.id; to = FromServer to; message = Append (server.fed + 1) (next_entries server) } ∷ [] else []
+
+-- the window: what is passed on to the next server, where there is one that may lack entries
+abbrev pub window : Server → List Packet
+window server = window_to server (next server)
+
+-- how many entries are acknowledged to it and how many its log has, for the server before it
+abbrev pub ack_to : Server → Option ServerId → List Packet
+ack_to server None = []
+ack_to server (Some to) =
+    record { from = FromServer server.id; to = FromServer to; message = Ack server.done (length server.log) } ∷ []
+
+abbrev pub ack : Server → List Packet
+ack server = ack_to server (prev server)
+
+-- the reply of an applied entry, for its client
+abbrev pub reply_packet : ServerId → DoneEntry → Packet
+reply_packet id done =
+    record { from = FromServer id; to = Client done.entry.client; message = Replied done.entry.seq (record { place = done.place; reply = done.reply }) }
+
+-- the client has an entry among these
+abbrev pub is_among : ClientId → List DoneEntry → Bool
+is_among client dones = is_some (find (λ done. done.entry.client.0 == client.0) dones)
+
+-- the last of each client's among these, places rising
+abbrev pub lasts : List DoneEntry → List DoneEntry
+lasts [] = []
+lasts (done ∷ more) =
+    if is_among done.entry.client more then lasts more else done ∷ lasts more
+
+-- the entries that are applied when so many are acknowledged, each with its place and reply
+abbrev pub newly_applied : Server → ℕ → List DoneEntry
+newly_applied server upto = drop server.done (done_of (take upto server.log))
+
+-- so many entries are acknowledged: those that were not before are applied, and the tail replies to their clients
+abbrev pub advances : Server → ℕ → Reaction Server
+advances server upto =
+    sends (record server { done = upto }) (if is_at_tail server then map (reply_packet server.id) (lasts (newly_applied server upto)) else [])
+
+-- entries go to the end of the log
+abbrev pub appended : Server → List Entry → Server
+appended server entries = record server { log = server.log ++ entries }
+
+-- what the tail has in its log is acknowledged by that
+abbrev pub advances_at_tail : Server → Reaction Server
+advances_at_tail server = if is_at_tail server then advances server (length server.log) else sends server []
+
+-- a new entry goes to the end of the first member's log, and on to the next server, if there is one
 abbrev pub enters : Server → Entry → Reaction Server
 enters server entry =
-    record { after = record server { log = server.log ++ entry ∷ [] }; sent = reply_packet server.id entry.client (done_after server.log entry) ∷ [] }
+    let grown = appended server (entry ∷ []) in if is_at_tail grown then advances grown (length grown.log) else sends grown (window grown)
 
--- a command that may be the client's last applied one once more
+-- the first member takes a command whose number is greater than those of all the client's commands in its log
+abbrev pub may_enter : Server → Entry → Bool
+may_enter server entry = is_first server && nat_lt (highest_seq entry.client server.log) entry.seq
+
+abbrev pub enters_new : Server → Entry → Reaction Server
+enters_new server entry = if may_enter server entry then enters server entry else ignored server
+
+-- a command that is the client's last applied one is replied again
 abbrev pub requested : Server → Entry → Option DoneEntry → Reaction Server
-requested server entry None = enters server entry
+requested server entry None = enters_new server entry
 requested server entry (Some last) =
-    if last.entry.seq == entry.seq then record { after = server; sent = reply_packet server.id entry.client last ∷ [] } else (if nat_lt last.entry.seq entry.seq then enters server entry else ignored server)
+    if last.entry.seq == entry.seq then sends server (reply_packet server.id last ∷ []) else enters_new server entry
 
+-- a member of the chain takes a client's request
 abbrev pub after_request : Server → ClientId → ℕ → Command → Reaction Server
 after_request server client seq command =
-    requested server (record { client = client; seq = seq; command = command }) (last_of client (done_of server.log))
+    if is_member server then requested server (record { client = client; seq = seq; command = command }) (last_of client (done_of (acknowledged server))) else ignored server
 
 -- a request counts where a client sent it
 abbrev pub request_from : Server → nodes.Node → ℕ → Command → Reaction Server
 request_from server Manager seq command = ignored server
 request_from server (Client client) seq command = after_request server client seq command
 request_from server (FromServer other) seq command = ignored server
+
+-- those of the entries, the first of which stands at the place, that the log lacks; none where there is a gap
+abbrev pub missing : List Entry → ℕ → List Entry → List Entry
+missing log first entries =
+    if nat_le first (length log + 1) then drop (length log + 1 - first) entries else []
+
+-- what is passed on once these entries have been appended
+abbrev pub passes_on : Server → List Entry → List Packet
+passes_on server [] = []
+passes_on server (entry ∷ more) = window server
+
+-- the entries go to the end of the log, are acknowledged where the server is the tail, and are passed on where not
+abbrev pub takes_entries : Server → ServerId → List Entry → Reaction Server
+takes_entries server from entries =
+    follows (advances_at_tail (appended server entries)) (λ after. sends after (ack_to after (Some from) ++ passes_on after entries))
+
+-- entries count where the server before it sent them
+abbrev pub after_append : Server → ServerId → ℕ → List Entry → Reaction Server
+after_append server from first entries =
+    if is_server (prev server) from then takes_entries server from (missing server.log first entries) else ignored server
+
+abbrev pub append_from : Server → nodes.Node → ℕ → List Entry → Reaction Server
+append_from server Manager first entries = ignored server
+append_from server (Client client) first entries = ignored server
+append_from server (FromServer from) first entries = after_append server from first entries
+
+-- what is acknowledged to the next server is acknowledged to this one, and the server before it learns so
+abbrev pub acknowledges : Server → ℕ → Reaction Server
+acknowledges server upto =
+    if nat_lt server.done upto then follows (advances server upto) (λ after. sends after (ack after)) else sends server []
+
+-- the next server is known to have so many entries, and is sent more of them where this is news
+abbrev pub feeds : Server → ℕ → Reaction Server
+feeds server upto =
+    let after = record server { fed = max server.fed upto } in
+    sends after (if nat_lt server.fed upto && nat_lt upto (length server.log) then window after else [])
+
+-- an acknowledgement counts where the next server sent it
+abbrev pub after_ack : Server → ServerId → ℕ → ℕ → Reaction Server
+after_ack server from done len =
+    if is_server (next server) from then follows (acknowledges server (min done (length server.log))) (λ after. feeds after (min len (length after.log))) else ignored server
+
+abbrev pub ack_from : Server → nodes.Node → ℕ → ℕ → Reaction Server
+ack_from server Manager done len = ignored server
+ack_from server (Client client) done len = ignored server
+ack_from server (FromServer from) done len = after_ack server from done len
 
 -- so many queries wait at the most; a further one is ignored
 abbrev pub most_waiting : ℕ
@@ -56,7 +217,7 @@ most_waiting = 64
 -- the query joins the end of those that wait
 abbrev pub after_ask : Server → Query → Reaction Server
 after_ask server query =
-    if nat_le most_waiting (length server.waiting) then ignored server else record { after = record server { waiting = server.waiting ++ query ∷ [] }; sent = [] }
+    if nat_le most_waiting (length server.waiting) then ignored server else sends (record server { waiting = server.waiting ++ query ∷ [] }) []
 
 -- a query counts where a client sent it
 abbrev pub ask_from : Server → nodes.Node → ℕ → ℕ → List (EventId × EventId) → Reaction Server
@@ -67,6 +228,8 @@ ask_from server (FromServer other) q part pairs = ignored server
 
 abbrev pub message_from : Server → nodes.Node → Message → Reaction Server
 message_from server from (Request seq command) = request_from server from seq command
+message_from server from (Append first entries) = append_from server from first entries
+message_from server from (Ack done len) = ack_from server from done len
 message_from server from (Replied seq placed) = ignored server
 message_from server from (Ask q part pairs) = ask_from server from q part pairs
 message_from server from (Answered q part told) = ignored server
@@ -79,12 +242,16 @@ server_takes server packet = message_from server packet.from packet.message
 abbrev pub answers_after : List Entry → List (EventId × EventId) → List Answer
 answers_after history pairs = map (λ pair. answer_to history pair.0.0 pair.1.0) pairs
 
--- the answers to a query, for the client that asked it
-abbrev pub answer_packet : ServerId → List Entry → Query → Packet
-answer_packet id history query =
-    record { from = FromServer id; to = Client query.client; message = Answered query.q query.part (record { entry = length history; answers = answers_after history query.pairs }) }
+-- what the server says to these pairs: who is not the tail may lack entries, and says only what stays so
+abbrev pub answers_of : Server → List (EventId × EventId) → List Answer
+answers_of server pairs =
+    let answers = answers_after (acknowledged server) pairs in if is_at_tail server then answers else map partial answers
 
--- the server answers every waiting query, the oldest first, from all that it has applied
+-- the answers to a query, for the client that asked it
+abbrev pub answer_packet : Server → Query → Packet
+answer_packet server query =
+    record { from = FromServer server.id; to = Client query.client; message = Answered query.q query.part (record { entry = server.done; answers = answers_of server query.pairs }) }
+
+-- the server answers every waiting query, the oldest first, from its acknowledged prefix
 abbrev pub server_works : Server → Reaction Server
-server_works server =
-    record { after = record server { waiting = [] }; sent = map (answer_packet server.id server.log) server.waiting }
+server_works server = sends (record server { waiting = [] }) (map (answer_packet server) server.waiting)

@@ -69,8 +69,8 @@ asker_later past world caller server pairs i client same some idle facts known =
       query = λ others is. subst (λ p. IsAsking later bag after p) (same_Some pairs others is) asking;
     }
 
-pub ask_keeps : (past : List Turn) (world : World) (caller : ClientId) (server : ServerId) (pairs : List (EventId × EventId)) (client : Client) → 1 ≤ caller.0 → 1 ≤ length pairs → client_at world caller ≡ Some client → client.call ≡ None → AreFacts past world → Keeps past (turn_of world (Query caller server pairs) (client_sends world caller (asks client server pairs)))
-ask_keeps past world caller server pairs client low some is idle facts =
+pub ask_keeps : (past : List Turn) (world : World) (caller : ClientId) (server : ServerId) (pairs : List (EventId × EventId)) (client : Client) → 1 ≤ caller.0 → 1 ≤ length pairs → length world.servers ≡ 1 → client_at world caller ≡ Some client → client.call ≡ None → AreFacts past world → Keeps past (turn_of world (Query caller server pairs) (client_sends world caller (asks client server pairs)))
+ask_keeps past world caller server pairs client low some alone is idle facts =
     let outcome = client_sends world caller (asks client server pairs) in
     let turn = turn_of world (Query caller server pairs) outcome in
     let later = past ++ turn ∷ [] in
@@ -94,6 +94,7 @@ ask_keeps past world caller server pairs client low some is idle facts =
             let apart : caller.0 ≢ other.id.0 = omega arith in
             client_later past turn history history world.bag bag j other (record { commands = refl; queries = others_ask caller other.id server pairs apart; told = refl }) (IsFrontOf-refl history) (facts.in_step.numbered other.id) (fresh_more history world.bag sent (λ id q seen le. ask_fresh id q seen _ _ (client.q + 1) 1 pairs)) its);
         servers = servers_later past (turn ∷ []) world.servers facts.servers;
+        alone = λ other asked. alone;
       };
       grows = IsFrontOf-refl history;
       told = All-nil (λ told. IsToldTruly history (seen_by told.client past) told);

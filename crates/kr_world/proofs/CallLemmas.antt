@@ -87,6 +87,7 @@ call_keeps past world caller command client low is idle free facts =
             let apart : caller.0 ≢ other.id.0 = omega arith in
             client_later past turn history history world.bag (world.bag ++ sent) j other (record { commands = others_begin caller other.id command apart; queries = refl; told = refl }) (IsFrontOf-refl history) (facts.in_step.numbered other.id) (fresh_more history world.bag sent (λ id q seen le. request_fresh id q seen _ _ (client.seq + 1) command)) its);
         servers = servers_later past (turn ∷ []) world.servers facts.servers;
+        alone = λ other some. facts.alone other (subst (λ asked. 1 ≤ length asked) (asked_same other past turn refl) some);
       };
       grows = IsFrontOf-refl history;
       told = All-nil (λ told. IsToldTruly history (seen_by told.client past) told);

@@ -1,14 +1,16 @@
 -- Each client's entries in a history: their numbers, and the last of them.
-use Rattle.std.proofs.Common.{◌≡◌, ◌≢◌, ◌+◌, ◌<◌, ◌≤◌, Bool, true, false, cond, eqb, List, [], ◌∷◌, ◌++◌, length, get_or, refl, sym, ap, ◌∙◌, subst, arith, inl, inr}
+use Rattle.std.proofs.Common.{zero, suc, ℕ, max, ◌≡◌, ◌≢◌, ◌+◌, ◌<◌, ◌≤◌, Bool, true, false, cond, eqb, List, [], ◌∷◌, ◌++◌, length, get_or, refl, sym, ap, ◌∙◌, subst, arith, inl, inr}
 use Rattle.std.specs.Prelude.{Option, None, Some, slice_get}
 use Rattle.std.proofs.lemmas.Bool.{cases_eq, cond-true, cond-false, eq-eqb, ne_eqb, eqb-true, eqb-false}
-use Rattle.std.proofs.lemmas.List.{append-nil, append_assoc, length_push}
+use Rattle.std.proofs.lemmas.List.{append-nil, append_assoc, length-append, length_push}
 use Rattle.std.proofs.lemmas.List.Elements.{filter-append}
-use Rattle.std.proofs.lemmas.Option.{same_Some, slice_get_within, slice_get-get_or}
+use Rattle.std.proofs.lemmas.Option.{none-some, same_Some, slice_get_within, slice_get-get_or}
 use Rattle.kr_order.specs.declared.ids.ClientId.{ClientId}
 use Rattle.kr_order.specs.declared.history.Command.{Command}
 use Rattle.kr_order.specs.declared.history.Entry.{Entry}
 use Rattle.kr_order.specs.declared.history.DoneEntry.{DoneEntry}
+use Rattle.kr_order.specs.Front.{IsFrontOf}
+use Rattle.kr_order.specs.History.{highest_seq}
 use Rattle.kr_order.specs.Done.{done_after, done_of, last_of}
 use Rattle.kr_order.proofs.HistoryLemmas.{done_of-push, last_of-push}
 use Rattle.kr_world.specs.Lawful.{entries_of, IsNumbered}
@@ -114,3 +116,38 @@ last_seq begun caller history done numbered last =
     let seq = known.seq in
     let entries : entries_of caller history ≡ entries_of caller last.before ++ done.entry ∷ [] = ap (entries_of caller) last.split ∙ entries_of-own caller last.before done.entry last.after last.own ∙ ap (λ es. entries_of caller last.before ++ done.entry ∷ es) last.last in
     omega (arith, ap length entries, length_push (entries_of caller last.before) done.entry)
+
+-- of a front of a log each client's entries are in order too
+pub numbered_front : (begun : List Command) (caller : ClientId) (history log : List Entry) → IsFrontOf history log → IsNumbered begun (entries_of caller log) → IsNumbered begun (entries_of caller history)
+numbered_front begun caller history log front numbered k entry is =
+    let parts : entries_of caller log ≡ entries_of caller history ++ entries_of caller front.more = ap (entries_of caller) front.is ∙ entries_of-append caller history front.more in
+    numbered k entry (ap (λ es. slice_get es k) parts ∙ slice_get_left (entries_of caller history) (entries_of caller front.more) k entry is)
+
+-- and there are no more of them
+pub entries_front : (caller : ClientId) (history log : List Entry) → IsFrontOf history log → length (entries_of caller history) ≤ length (entries_of caller log)
+entries_front caller history log front =
+    let parts : entries_of caller log ≡ entries_of caller history ++ entries_of caller front.more = ap (entries_of caller) front.is ∙ entries_of-append caller history front.more in
+    omega (arith, ap length parts, length-append (entries_of caller history) (entries_of caller front.more))
+
+-- no entry of the client has a greater number than the greatest
+own_within : (caller : ClientId) (log : List Entry) (k : ℕ) (entry : Entry) → slice_get (entries_of caller log) k ≡ Some entry → entry.seq ≤ highest_seq caller log
+own_within caller [] k entry is = absurd (none-some entry is)
+own_within caller (first ∷ more) k entry is = by_test (own_within caller more) (eqb first.client.0 caller.0) k is
+  where
+    by_test : ((j : ℕ) (other : Entry) → slice_get (entries_of caller more) j ≡ Some other → other.seq ≤ highest_seq caller more) → (own : Bool) → (k : ℕ) → slice_get (cond own (first ∷ entries_of caller more) (entries_of caller more)) k ≡ Some entry → entry.seq ≤ max (cond own first.seq 0) (highest_seq caller more)
+    by_test rest true zero is = let same = ap (λ (e : Entry). e.seq) (same_Some first entry is) in omega arith
+    by_test rest true (suc k) is = let le = rest k entry is in omega arith
+    by_test rest false k is = let le = rest k entry is in omega arith
+
+-- entries in order are no more than the greatest number of them
+pub count_within : (begun : List Command) (caller : ClientId) (log : List Entry) → IsNumbered begun (entries_of caller log) → length (entries_of caller log) ≤ highest_seq caller log
+count_within begun caller log numbered = from (entries_of caller log) (length (entries_of caller log)) refl (own_within caller log) numbered
+  where
+    from : (own : List Entry) (n : ℕ) → length own ≡ n → ((k : ℕ) (entry : Entry) → slice_get own k ≡ Some entry → entry.seq ≤ highest_seq caller log) → IsNumbered begun own → length own ≤ highest_seq caller log
+    from [] n count within numbered = omega arith
+    from (first ∷ more) n count within numbered =
+        let last = get_or (first ∷ more) (length more) first in
+        let is : slice_get (first ∷ more) (length more) ≡ Some last = slice_get-get_or (first ∷ more) (length more) first (omega arith) in
+        let le = within (length more) last is in
+        let seq = (numbered (length more) last is).0 in
+        omega arith

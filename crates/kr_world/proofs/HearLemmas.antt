@@ -17,7 +17,7 @@ use Rattle.kr_order.specs.declared.history.Placed.{Placed}
 use Rattle.kr_order.specs.declared.message.Node as nodes
 use Rattle.kr_order.specs.declared.message.Node.TheVariants.{Manager, Client as AtClient, Server as AtServer}
 use Rattle.kr_order.specs.declared.message.Message.{Message}
-use Rattle.kr_order.specs.declared.message.Message.TheVariants.{Request, Replied, Ask, Answered}
+use Rattle.kr_order.specs.declared.message.Message.TheVariants.{Request, Append, Ack, Replied, Ask, Answered}
 use Rattle.kr_order.specs.declared.message.Packet.{Packet}
 use Rattle.kr_order.proofs.FrontLemmas.{IsFrontOf-refl}
 use Rattle.kr_protocol.specs.Server.{answers_after}
@@ -94,6 +94,7 @@ unheard_keeps past world k id client is facts =
         };
         clients = each_after_set (IsTrueClient later history world.bag) world.clients (id.0 - 1) client (client_later past turn history history world.bag world.bag (id.0 - 1) client (apart client.id) front (facts.in_step.numbered client.id) (λ to q seen le all. all) (facts.clients (id.0 - 1) client is)) (λ j other different found. client_later past turn history history world.bag world.bag j other (apart other.id) front (facts.in_step.numbered other.id) (λ to q seen le all. all) (facts.clients j other found));
         servers = servers_later past (turn ∷ []) world.servers facts.servers;
+        alone = λ caller some. facts.alone caller (subst (λ asked. 1 ≤ length asked) (asked_same caller past turn refl) some);
       };
       grows = front;
       told = All-nil (λ told. IsToldTruly history (seen_by told.client past) told);
@@ -149,6 +150,7 @@ closes_keeps past world k id client command placed is called stands facts =
             let untold : greatest_place other.id turn.outcome.told ≡ 0 = cond-false (eqb id.0 other.id.0) (max placed.place 0) 0 (ne_eqb id.0 other.id.0 apart) in
             client_later past turn history history world.bag world.bag j other (record { commands = refl; queries = refl; told = omega arith }) front (facts.in_step.numbered other.id) (λ to q seen le all. all) others);
         servers = servers_later past (turn ∷ []) world.servers facts.servers;
+        alone = λ caller some. facts.alone caller (subst (λ asked. 1 ≤ length asked) (asked_same caller past turn refl) some);
       };
       grows = front;
       told = All-cons (λ told. IsToldTruly history (seen_by told.client past) told) _ [] (told_truly history (seen_by id past) id client.seq placed stands unseen) (All-nil (λ told. IsToldTruly history (seen_by told.client past) told));
@@ -206,6 +208,7 @@ answered_keeps past world k id client pairs by told is asking said fresh facts =
             let untold : greatest_entry other.id turn.outcome.parts ≡ 0 = entry_other other.id id client.q told.entry by pairs told.answers apart in
             client_later past turn history history world.bag world.bag j other (record { commands = refl; queries = refl; told = omega arith }) front (facts.in_step.numbered other.id) (λ to q seen le all. all) others);
         servers = servers_later past (turn ∷ []) world.servers facts.servers;
+        alone = λ caller some. facts.alone caller (subst (λ asked. 1 ≤ length asked) (asked_same caller past turn refl) some);
       };
       grows = front;
       told = All-nil (λ told. IsToldTruly history (seen_by told.client past) told);
@@ -252,6 +255,8 @@ from_keeps past world k (AtServer server) id client q part told is said sent fac
 
 message_keeps : (past : List Turn) (world : World) (k : ℕ) (from : nodes.Node) (id : ClientId) (client : Client) (message : Message) → client_at world id ≡ Some client → IsTrueMessage past world.history from (AtClient id) message → IsSentTo world.bag k id message → AreFacts past world → Keeps past (turn_of world (Deliver k) (client_hears world id (message_to client from message)))
 message_keeps past world k from id client (Request seq command) is said sent facts = unheard_keeps past world k id client is facts
+message_keeps past world k from id client (Append first entries) is said sent facts = unheard_keeps past world k id client is facts
+message_keeps past world k from id client (Ack done len) is said sent facts = unheard_keeps past world k id client is facts
 message_keeps past world k from id client (Replied seq placed) is said sent facts = reply_keeps past world k id client client.call seq placed refl is said facts
 message_keeps past world k from id client (Ask q part pairs) is said sent facts = unheard_keeps past world k id client is facts
 message_keeps past world k from id client (Answered q part told) is said sent facts = from_keeps past world k from id client q part told is said sent facts

@@ -77,6 +77,7 @@ nothing_keeps past world turn apart facts =
       };
       clients = λ i client is. client_later past turn world.history world.history world.bag world.bag i client (apart client.id) front (facts.in_step.numbered client.id) (λ id q seen le all. all) (facts.clients i client is);
       servers = servers_later past (turn ∷ []) world.servers facts.servers;
+      alone = λ caller some. facts.alone caller (subst (λ asked. 1 ≤ length asked) (asked_same caller past turn (apart caller).queries) some);
     }
 
 pub refused_keeps : (past : List Turn) (world : World) (event : Event) (why : Refusal) → AreFacts past world → Keeps past (turn_of world event (refuses world why))

@@ -1,7 +1,9 @@
 pub mod AskLemmas
 pub mod CallLemmas
+pub mod ChainLemmas
 pub mod EntryLemmas
 pub mod FreshLemmas
+pub mod HandlerLemmas
 pub mod HearLemmas
 pub mod KeepLemmas
 pub mod LawfulLemmas
@@ -9,6 +11,8 @@ pub mod ListFacts
 pub mod PacketLemmas
 pub mod PartLemmas
 pub mod PastLemmas
+pub mod ReactionLemmas
 pub mod ServerLemmas
 pub mod SoundLemmas
 pub mod StepLemmas
+pub mod ViewLemmas

@@ -12,7 +12,7 @@ use Rattle.kr_order.specs.declared.history.Placed.{Placed}
 use Rattle.kr_order.specs.declared.message.Node as nodes
 use Rattle.kr_order.specs.declared.message.Node.TheVariants.{Manager, Client as AtClient, Server as AtServer}
 use Rattle.kr_order.specs.declared.message.Message.{Message}
-use Rattle.kr_order.specs.declared.message.Message.TheVariants.{Request, Replied, Ask, Answered}
+use Rattle.kr_order.specs.declared.message.Message.TheVariants.{Request, Append, Ack, Replied, Ask, Answered}
 use Rattle.kr_order.specs.declared.message.Packet.{Packet}
 use Rattle.kr_order.specs.declared.answer.Told.{Told}
 use Rattle.kr_order.specs.declared.ids.EventId.{EventId}
@@ -20,11 +20,11 @@ use Rattle.kr_order.specs.Front.{IsFrontOf}
 use Rattle.kr_order.specs.Reply.{reply_to}
 use Rattle.kr_protocol.specs.Server.{Server, answers_after}
 use Rattle.kr_world.specs.Run.{Turn}
-use Rattle.kr_world.specs.Lawful.{IsToldTruly, begun_by}
-use Rattle.kr_world.specs.Facts.{HasBegun, HasAsked, AreAnswers, StandsAt, IsTrueRequest, IsTrueReply, IsTrueAsk, IsTrueAnswer, IsTrueMessage, IsTruePacket, IsTrueQuery, IsTrueServer, asked_by}
+use Rattle.kr_world.specs.Lawful.{IsNumbered, IsToldTruly, begun_by, entries_of}
+use Rattle.kr_world.specs.Facts.{HasBegun, HasAsked, AreAnswers, StandsAt, IsTrueRequest, IsTrueReply, IsTrueAsk, IsTrueAnswer, IsTrueMessage, IsTruePacket, IsTrueQuery, IsLawfulLog, IsTrueServer, asked_by}
 use Rattle.kr_world.proofs.ListFacts.{slice_get_left, slice_get_at}
 use Rattle.kr_world.proofs.PastLemmas.{begun_by-append, asked_by-append}
-use Rattle.kr_world.proofs.EntryLemmas.{IsLastDone}
+use Rattle.kr_world.proofs.EntryLemmas.{IsLastDone, numbered_more}
 
 pub same_client : (a b : ClientId) → a.0 ≡ b.0 → a ≡ b
 same_client a b is = let id : ℕ → ClientId = λ n. record { 0 = n } in ap id is
@@ -37,7 +37,7 @@ begun_later past more caller seq command known =
       begun = ap (λ b. slice_get b (seq - 1)) (begun_by-append caller past more) ∙ slice_get_left (begun_by caller past) (begun_by caller more) (seq - 1) command known.begun;
     }
 
-stands_later : (history more : List Entry) (caller : ClientId) (seq : ℕ) (placed : Placed) → StandsAt history caller seq placed → StandsAt (history ++ more) caller seq placed
+pub stands_later : (history more : List Entry) (caller : ClientId) (seq : ℕ) (placed : Placed) → StandsAt history caller seq placed → StandsAt (history ++ more) caller seq placed
 stands_later history more caller seq placed known =
     let within = slice_get_within history (placed.place - 1) known.entry known.stands in
     let front : take (placed.place - 1) (history ++ more) ≡ take (placed.place - 1) history = take-append-le (placed.place - 1) history more (omega arith) in
@@ -93,6 +93,8 @@ answer_later past turns history more (AtServer server) q told known = known
 
 message_later : (past turns : List Turn) (history more : List Entry) (from to : nodes.Node) (message : Message) → IsTrueMessage past history from to message → IsTrueMessage (past ++ turns) (history ++ more) from to message
 message_later past turns history more from to (Request seq command) known = request_later past turns from seq command known
+message_later past turns history more from to (Append first entries) known = known
+message_later past turns history more from to (Ack done len) known = known
 message_later past turns history more from to (Replied seq placed) known = reply_later history more to seq placed known
 message_later past turns history more from to (Ask q part pairs) known = ask_later past turns from q pairs known
 message_later past turns history more from to (Answered q part told) known = answer_later past turns history more to q told known
@@ -106,10 +108,24 @@ pub packets_later : (past turns : List Turn) (history later : List Entry) (bag :
 packets_later past turns history later bag front known =
     All-weaker (IsTruePacket past history) (IsTruePacket (past ++ turns) later) (λ packet true_then. packet_later past turns history later packet front true_then) bag known
 
--- queries that wait stay true
+-- a lawful log stays so
+pub lawful_later : (past turns : List Turn) (log : List Entry) → IsLawfulLog past log → IsLawfulLog (past ++ turns) log
+lawful_later past turns log known =
+    record {
+      callers = known.callers;
+      numbered = λ caller. subst (λ b. IsNumbered b (entries_of caller log)) (sym (begun_by-append caller past turns)) (numbered_more (begun_by caller past) (begun_by caller turns) (entries_of caller log) (known.numbered caller));
+    }
+
+-- queries that wait stay true, and logs lawful
+server_later : (past turns : List Turn) (server : Server) → IsTrueServer past server → IsTrueServer (past ++ turns) server
+server_later past turns server known =
+    record {
+      waiting = All-weaker (IsTrueQuery past) (IsTrueQuery (past ++ turns)) (λ query asked. asked_later past turns query.client query.q query.pairs asked) server.waiting known.waiting;
+      log = lawful_later past turns server.log known.log;
+    }
+
 pub servers_later : (past turns : List Turn) (servers : List Server) → All (IsTrueServer past) servers → All (IsTrueServer (past ++ turns)) servers
-servers_later past turns servers known =
-    All-weaker (IsTrueServer past) (IsTrueServer (past ++ turns)) (λ server waits. All-weaker (IsTrueQuery past) (IsTrueQuery (past ++ turns)) (λ query asked. asked_later past turns query.client query.q query.pairs asked) server.waiting waits) servers known
+servers_later past turns servers known = All-weaker (IsTrueServer past) (IsTrueServer (past ++ turns)) (server_later past turns) servers known
 
 -- an entry stands at its place
 pub entry_stands : (before : List Entry) (entry : Entry) (after : List Entry) → 1 ≤ entry.client.0 → StandsAt (before ++ entry ∷ after) entry.client entry.seq (record { place = length before + 1; reply = reply_to before entry.command })

@@ -1,19 +1,27 @@
 -- What is known of a step that is not refused.
-use Rattle.std.proofs.Common.{◌≡◌, ℕ, ◌<◌, ◌≤◌, Bool, true, false, leb, List, length, refl, sym, ap, ◌∙◌, subst, arith}
+use Rattle.std.proofs.Common.{◌≡◌, ℕ, ◌<◌, ◌≤◌, Bool, true, false, leb, ◌-◌, List, length, refl, sym, ap, ◌∙◌, subst, arith}
 use Rattle.std.specs.Prelude.{Option, None, Some, is_some, slice_get, All}
 use Rattle.std.proofs.lemmas.Bool.{leb-false, false≢true, or_parts}
+use Rattle.std.proofs.lemmas.List.{length-set}
 use Rattle.std.proofs.lemmas.Option.{none-some, slice_get_within, get_or_from_slice_get}
 use Rattle.std.proofs.lemmas.List.Elements.{All-get_or}
 use Rattle.kr_order.specs.declared.message.Packet.{Packet}
-use Rattle.kr_protocol.specs.Server.{Server}
+use Rattle.kr_protocol.specs.Server.{Server, server_takes, server_works}
 use Rattle.kr_protocol.specs.Client.{Client, is_busy}
+use Rattle.kr_world.specs.declared.refusal.Refusal.{Refusal}
 use Rattle.kr_world.specs.declared.refusal.Refusal.TheVariants.{NoSuchClient, NoSuchServer, Busy, BagFull}
-use Rattle.script_lang.specs.declared.script.Event.TheVariants.{Call, Deliver}
+use Rattle.script_lang.specs.declared.script.Event.{Event}
+use Rattle.script_lang.specs.declared.script.Event.TheVariants.{Call, Query, Work, Deliver}
+use Rattle.kr_order.specs.declared.ids.ServerId.{ServerId}
+use Rattle.kr_order.specs.declared.ids.EventId.{EventId}
+use Rattle.kr_order.specs.declared.message.Node as nodes
+use Rattle.kr_order.specs.declared.message.Node.TheVariants.{Manager, Client as ToClient, Server as ToServer}
+use Rattle.kr_protocol.specs.Reaction.{Reaction}
 use Rattle.kr_order.specs.declared.ids.ClientId.{ClientId}
 use Rattle.kr_order.specs.declared.history.Command.{Command}
 use Rattle.kr_world.specs.FullBag.{AFullBagRefuses}
-use Rattle.kr_world.specs.World.{World, client_at, packet_at}
-use Rattle.kr_world.specs.Step.{bag_limit, is_full, call_refusal, query_refusal, work_refusal, deliver_refusal, refusal_of, refuses, act, unless, step}
+use Rattle.kr_world.specs.World.{World, client_at, server_at, packet_at}
+use Rattle.kr_world.specs.Step.{bag_limit, is_full, call_refusal, query_refusal, work_refusal, deliver_refusal, refusal_of, refuses, client_calls, client_asks, server_reacts, arrives_at_client, arrives_at_server, arrives, delivers, works, act, unless, step}
 
 -- what holds of each element holds of the one at an index
 pub at_index : {X : Type 0} (P : X → Type 0) (xs : List X) (i : ℕ) (x : X) → All P xs → slice_get xs i ≡ Some x → P x
@@ -95,5 +103,63 @@ deliver_full world k packet enough there =
     let why : refusal_of world (Deliver k) ≡ Some BagFull = ap (deliver_refusal world) there ∙ refused in
     ap (λ r. unless world r (act world (Deliver k))) why
 
+query_full : (world : World) (id : ClientId) (at : ServerId) (pairs : List (EventId × EventId)) (client : Client) (server : Server) → bag_limit ≤ length world.bag → client_at world id ≡ Some client → server_at world at ≡ Some server → is_busy client ≡ false → step world (Query id at pairs) ≡ refuses world BagFull
+query_full world id at pairs client server enough there there' idle =
+    let refused : call_refusal world (Some client) ≡ Some BagFull = rw (idle, full_by_count world enough) refl in
+    let why : refusal_of world (Query id at pairs) ≡ Some BagFull = ap (λ found. query_refusal world found (server_at world at)) there ∙ ap (query_refusal world (Some client)) there' ∙ refused in
+    ap (λ r. unless world r (act world (Query id at pairs))) why
+
+work_full : (world : World) (at : ServerId) (workers : ℕ) (server : Server) → bag_limit ≤ length world.bag → server_at world at ≡ Some server → step world (Work at workers) ≡ refuses world BagFull
+work_full world at workers server enough there =
+    let refused : work_refusal world (Some server) ≡ Some BagFull = rw (full_by_count world enough) refl in
+    let why : refusal_of world (Work at workers) ≡ Some BagFull = ap (work_refusal world) there ∙ refused in
+    ap (λ r. unless world r (act world (Work at workers))) why
+
 pub full_refuses : AFullBagRefuses
-full_refuses = record { calls = call_full; deliveries = deliver_full }
+full_refuses = record { calls = call_full; deliveries = deliver_full; queries = query_full; works = work_full }
+
+-- no step makes or removes a server
+reacts_count : (world : World) (id : ServerId) (reaction : Reaction Server) → length (server_reacts world id reaction).after.servers ≡ length world.servers
+reacts_count world id reaction = length-set world.servers (id.0 - 1) reaction.after
+
+works_count : (world : World) (id : ServerId) (found : Option Server) → length (works world id found).after.servers ≡ length world.servers
+works_count world id None = refl
+works_count world id (Some server) = reacts_count world id (server_works server)
+
+calls_count : (world : World) (id : ClientId) (command : Command) (found : Option Client) → length (client_calls world id command found).after.servers ≡ length world.servers
+calls_count world id command None = refl
+calls_count world id command (Some client) = refl
+
+asks_count : (world : World) (id : ClientId) (server : ServerId) (pairs : List (EventId × EventId)) (found : Option Client) → length (client_asks world id server pairs found).after.servers ≡ length world.servers
+asks_count world id server pairs None = refl
+asks_count world id server pairs (Some client) = refl
+
+hears_count : (world : World) (id : ClientId) (packet : Packet) (found : Option Client) → length (arrives_at_client world id packet found).after.servers ≡ length world.servers
+hears_count world id packet None = refl
+hears_count world id packet (Some client) = refl
+
+takes_count : (world : World) (id : ServerId) (packet : Packet) (found : Option Server) → length (arrives_at_server world id packet found).after.servers ≡ length world.servers
+takes_count world id packet None = refl
+takes_count world id packet (Some server) = reacts_count world id (server_takes server packet)
+
+arrives_count : (world : World) (to : nodes.Node) (packet : Packet) → length (arrives world to packet).after.servers ≡ length world.servers
+arrives_count world Manager packet = refl
+arrives_count world (ToClient client) packet = hears_count world client packet (client_at world client)
+arrives_count world (ToServer server) packet = takes_count world server packet (server_at world server)
+
+delivers_count : (world : World) (found : Option Packet) → length (delivers world found).after.servers ≡ length world.servers
+delivers_count world None = refl
+delivers_count world (Some packet) = arrives_count world packet.to packet
+
+act_count : (world : World) (event : Event) → length (act world event).after.servers ≡ length world.servers
+act_count world (Call client command) = calls_count world client command (client_at world client)
+act_count world (Query client server pairs) = asks_count world client server pairs (client_at world client)
+act_count world (Work server workers) = works_count world server (server_at world server)
+act_count world (Deliver k) = delivers_count world (packet_at world k)
+
+pub same_count : (world : World) (event : Event) → length (step world event).after.servers ≡ length world.servers
+same_count world event = by_refusal (refusal_of world event)
+  where
+    by_refusal : (refusal : Option Refusal) → length (unless world refusal (act world event)).after.servers ≡ length world.servers
+    by_refusal None = act_count world event
+    by_refusal (Some why) = refl

@@ -12,7 +12,7 @@ use Rattle.kr_order.specs.declared.history.Placed.{Placed}
 use Rattle.kr_order.specs.declared.message.Node as nodes
 use Rattle.kr_order.specs.declared.message.Node.TheVariants.{Manager, Client as AtClient, Server as AtServer}
 use Rattle.kr_order.specs.declared.message.Message.{Message}
-use Rattle.kr_order.specs.declared.message.Message.TheVariants.{Request, Replied, Ask, Answered}
+use Rattle.kr_order.specs.declared.message.Message.TheVariants.{Request, Append, Ack, Replied, Ask, Answered}
 use Rattle.kr_order.specs.declared.message.Packet.{Packet}
 use Rattle.kr_order.specs.Reply.{reply_to}
 use Rattle.kr_protocol.specs.Server.{Server, answers_after}
@@ -54,9 +54,15 @@ pub record HasAsked (past : List Turn) (caller : ClientId) (q : ℕ) (pairs : Li
 abbrev pub IsTrueQuery : List Turn → Query → Type 0
 IsTrueQuery past query = HasAsked past query.client query.q query.pairs
 
--- so is each query that waits at a server
-abbrev pub IsTrueServer : List Turn → Server → Type 0
-IsTrueServer past server = All (IsTrueQuery past) server.waiting
+-- each client's entries in the log are the first commands that it began
+pub record IsLawfulLog (past : List Turn) (log : List Entry) : Type 0 where
+  pub callers : All (λ entry. 1 ≤ entry.client.0) log
+  pub numbered : (caller : ClientId) → IsNumbered (begun_by caller past) (entries_of caller log)
+
+-- so is each query that waits at a server, and its log is lawful
+pub record IsTrueServer (past : List Turn) (server : Server) : Type 0 where
+  pub waiting : All (IsTrueQuery past) server.waiting
+  pub log : IsLawfulLog past server.log
 
 -- the answers to the client's query of this number are those after the entry that they name
 pub record AreAnswers (past : List Turn) (history : List Entry) (caller : ClientId) (q : ℕ) (told : Told) : Type 0 where
@@ -105,6 +111,8 @@ IsTrueAnswer past history (AtServer server) q told = Unit {0}
 
 abbrev pub IsTrueMessage : List Turn → List Entry → nodes.Node → nodes.Node → Message → Type 0
 IsTrueMessage past history from to (Request seq command) = IsTrueRequest past from seq command
+IsTrueMessage past history from to (Append first entries) = Unit {0}
+IsTrueMessage past history from to (Ack done len) = Unit {0}
 IsTrueMessage past history from to (Replied seq placed) = IsTrueReply history to seq placed
 IsTrueMessage past history from to (Ask q part pairs) = IsTrueAsk past from q pairs
 IsTrueMessage past history from to (Answered q part told) = IsTrueAnswer past history to q told
@@ -160,5 +168,7 @@ pub record AreFacts (past : List Turn) (world : World) : Type 0 where
   pub in_step : IsInStep past world.history
   -- clients have seen only history
   pub clients : (i : ℕ) (client : Client) → slice_get world.clients i ≡ Some client → IsTrueClient past world.history world.bag i client
-  -- queries that wait were asked
+  -- queries that wait were asked, and logs are lawful
   pub servers : All (IsTrueServer past) world.servers
+  -- queries are asked where one server is the whole chain
+  pub alone : (caller : ClientId) → 1 ≤ length (asked_by caller past) → length world.servers ≡ 1

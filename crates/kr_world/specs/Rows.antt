@@ -43,12 +43,15 @@ request_delivered_twice_text =
     ++ line (codes "end")
 
 abbrev pub refused_steps : Script
-refused_steps = script (Deliver 1 ∷ create 2 ∷ create 1 ∷ create 1 ∷ Deliver 2 ∷ Deliver 1 ∷ create 1 ∷ [])
+refused_steps =
+    script (Deliver 1 ∷ create 2 ∷ Query (record { 0 = 1 }) (record { 0 = 2 }) ((record { 0 = 1 }, record { 0 = 1 }) ∷ []) ∷ Work (record { 0 = 2 }) 1 ∷ create 1 ∷ create 1 ∷ Deliver 2 ∷ Deliver 1 ∷ create 1 ∷ [])
 
 abbrev pub refused_steps_text : List ℕ
 refused_steps_text =
     line (codes "refused NoSuchPacket")
     ++ line (codes "refused NoSuchClient")
+    ++ line (codes "refused NoSuchServer")
+    ++ line (codes "refused NoSuchServer")
     ++ line (codes "packet 1 c1 s1 request 1")
     ++ line (codes "refused Busy")
     ++ line (codes "refused NoSuchPacket")
@@ -164,4 +167,67 @@ bound_events_text =
     ++ line (codes "3 c1 3 assign 1!2 = assigned kept")
     ++ line (codes "4 c1 4 assign 2?1 1?1 = assigned reversed same")
     ++ line (codes "5 c1 5 assign 2!1 = contradicts 0")
+    ++ line (codes "end")
+
+-- a script of three servers
+abbrev of_three : List Event → Script
+of_three events = record { servers = 3; clients = 1; events = events }
+
+-- nothing happens
+abbrev pub three_servers : Script
+three_servers = of_three []
+
+abbrev pub three_servers_text : List ℕ
+three_servers_text = line (codes "history 0") ++ line (codes "end")
+
+-- a create goes down the chain and is replied by the tail; the acknowledgements come up the chain, a newer one first
+abbrev pub down_the_chain : Script
+down_the_chain =
+    of_three (create 1 ∷ Deliver 1 ∷ Deliver 2 ∷ Deliver 4 ∷ Deliver 6 ∷ Deliver 7 ∷ Deliver 5 ∷ Deliver 3 ∷ [])
+
+abbrev pub down_the_chain_text : List ℕ
+down_the_chain_text =
+    line (codes "packet 1 c1 s1 request 1")
+    ++ line (codes "packet 2 s1 s2 append 1 1")
+    ++ line (codes "packet 3 s2 s1 ack 0 1")
+    ++ line (codes "packet 4 s2 s3 append 1 1")
+    ++ line (codes "grown 1")
+    ++ line (codes "packet 5 s3 c1 reply 1 1")
+    ++ line (codes "packet 6 s3 s2 ack 1 1")
+    ++ line (codes "packet 7 s2 s1 ack 1 1")
+    ++ line (codes "told c1 1 at 1 created 1")
+    ++ line (codes "history 1")
+    ++ line (codes "1 c1 1 create = created 1")
+    ++ line (codes "end")
+
+-- entries that come twice, and older ones that come after newer ones: each is acknowledged again, and none is taken
+-- twice
+abbrev pub entries_come_again : Script
+entries_come_again =
+    of_three (create 1 ∷ Deliver 1 ∷ Deliver 2 ∷ Deliver 4 ∷ Deliver 5 ∷ create 1 ∷ Deliver 7 ∷ Deliver 8 ∷ Deliver 10 ∷ Deliver 10 ∷ Deliver 4 ∷ Deliver 8 ∷ Deliver 11 ∷ [])
+
+abbrev pub entries_come_again_text : List ℕ
+entries_come_again_text =
+    line (codes "packet 1 c1 s1 request 1")
+    ++ line (codes "packet 2 s1 s2 append 1 1")
+    ++ line (codes "packet 3 s2 s1 ack 0 1")
+    ++ line (codes "packet 4 s2 s3 append 1 1")
+    ++ line (codes "grown 1")
+    ++ line (codes "packet 5 s3 c1 reply 1 1")
+    ++ line (codes "packet 6 s3 s2 ack 1 1")
+    ++ line (codes "told c1 1 at 1 created 1")
+    ++ line (codes "packet 7 c1 s1 request 2")
+    ++ line (codes "packet 8 s1 s2 append 1 2")
+    ++ line (codes "packet 9 s2 s1 ack 0 2")
+    ++ line (codes "packet 10 s2 s3 append 1 2")
+    ++ line (codes "grown 2")
+    ++ line (codes "packet 11 s3 c1 reply 2 2")
+    ++ line (codes "packet 12 s3 s2 ack 2 2")
+    ++ line (codes "packet 13 s3 s2 ack 2 2")
+    ++ line (codes "packet 14 s3 s2 ack 2 2")
+    ++ line (codes "packet 15 s2 s1 ack 0 2")
+    ++ line (codes "told c1 2 at 2 created 2")
+    ++ line (codes "history 2")
+    ++ line (codes "1 c1 1 create = created 1")
+    ++ line (codes "2 c1 2 create = created 2")
     ++ line (codes "end")

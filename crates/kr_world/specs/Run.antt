@@ -19,7 +19,7 @@ run_from world (event ∷ events) =
     let outcome = step world event in record { before = world; event = event; outcome = outcome } ∷ run_from outcome.after events
 
 abbrev pub run_of : Script → List Turn
-run_of script = run_from first_world script.events
+run_of script = run_from (first_world script.servers script.clients) script.events
 
 -- what is printed of these steps, and at the end
 abbrev pub text_from : World → List Turn → List ℕ
@@ -28,4 +28,4 @@ text_from world (turn ∷ turns) = step_lines turn.before turn.outcome ++ text_f
 
 -- what is printed of the script's run
 abbrev pub text_of : Script → List ℕ
-text_of script = text_from first_world (run_of script)
+text_of script = text_from (first_world script.servers script.clients) (run_of script)

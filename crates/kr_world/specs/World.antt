@@ -1,23 +1,26 @@
--- The world of a run: all nodes, all packets ever sent, and the history.
-use Rattle.std.specs.Prelude.{ℕ, ◌-◌, List, [], ◌∷◌, length, nat_lt, if◌then◌else◌, slice_get, Option}
+-- The world of a run: all views, all nodes, all packets ever sent, and the history.
+use Rattle.std.specs.Prelude.{ℕ, ◌-◌, List, [], ◌∷◌, length, map, nat_lt, if◌then◌else◌, slice_get, Option}
 use Rattle.kr_order.specs.declared.ids.ClientId.{ClientId}
 use Rattle.kr_order.specs.declared.ids.ServerId.{ServerId}
 use Rattle.kr_order.specs.declared.history.Entry.{Entry}
 use Rattle.kr_order.specs.declared.message.Packet.{Packet}
-use Rattle.kr_protocol.specs.Server.{Server}
+use Rattle.kr_order.specs.declared.view.View.{View}
+use Rattle.kr_order.specs.View.{numbers_to, first_view}
+use Rattle.kr_protocol.specs.Server.{Server, founder, acknowledged}
 use Rattle.kr_protocol.specs.Client.{Client, new_client}
 
--- server s is at index s - 1, client c at c - 1, packet k at k - 1
+-- view v of the manager is at index v - 1, server s at s - 1, client c at c - 1, packet k at k - 1
 pub record World : Type 0 where
+  pub views : List View
   pub servers : List Server
   pub clients : List Client
   pub bag : List Packet
   pub history : List Entry
 
--- the world of one server and one client, before the first step
-abbrev pub first_world : World
-first_world =
-    record { servers = record { id = record { 0 = 1 }; log = []; waiting = [] } ∷ []; clients = new_client (record { 0 = 1 }) ∷ []; bag = []; history = [] }
+-- the world of so many servers and clients, before the first step
+abbrev pub first_world : ℕ → ℕ → World
+first_world servers clients =
+    record { views = first_view servers ∷ []; servers = map (λ n. founder (first_view servers) (record { 0 = n })) (numbers_to servers); clients = map (λ n. new_client (record { 0 = n })) (numbers_to clients); bag = []; history = [] }
 
 abbrev pub server_at : World → ServerId → Option Server
 server_at world server = slice_get world.servers (server.0 - 1)
@@ -32,7 +35,7 @@ packet_at world k = slice_get world.bag (k - 1)
 abbrev pub longer : List Entry → List Entry → List Entry
 longer history log = if nat_lt (length history) (length log) then log else history
 
--- the longest of a history and what the servers have applied
+-- the longest of a history and the servers' acknowledged prefixes
 abbrev pub longest : List Entry → List Server → List Entry
 longest history [] = history
-longest history (server ∷ servers) = longest (longer history server.log) servers
+longest history (server ∷ servers) = longest (longer history (acknowledged server)) servers

@@ -1,17 +1,20 @@
 -- A run that is part way: what was written so far, and what the rest of its text is.
 use Rattle.std.proofs.Common.{zero, suc, ◌≡◌, ℕ, ◌+◌, ◌-◌, ◌^◌, ◌<◌, ◌≤◌, min, List, [], ◌∷◌, ◌++◌, length, get_or, drop, refl, sym, ap, ◌∙◌, subst, arith, append_assoc, add-one, drop-cons, length-drop}
-use Rattle.std.specs.Prelude.{Option, false}
+use Rattle.std.specs.Prelude.{Option, Result, Ok, Err, false}
 use Rattle.std.specs.Io.KnownBytes.{Appends}
 use Rattle.std.proofs.KnownBytes.{Appends-nil, Appends-trans}
 use Rattle.std.proofs.lemmas.List.{nil_from_length}
 use Rattle.kr_text.specs.Causes.{Rose}
 use Rattle.script_lang.specs.declared.script.Event.{Event}
-use Rattle.kr_world.specs.World.{World}
+use Rattle.script_lang.specs.declared.script.Script.{Script}
+use Rattle.kr_world.specs.World.{World, first_world}
 use Rattle.kr_world.specs.Step.{step}
 use Rattle.kr_world.specs.Lines.{step_lines, end_lines}
-use Rattle.kr_world.specs.Run.{run_from, text_from}
+use Rattle.kr_world.specs.Run.{run_from, text_from, text_of}
 use Rattle.cluster_sim.specs.Standing.{Standing}
-use Rattle.kronos.specs.Runs.{DoesTurn, RanEvents}
+use Rattle.kronos.specs.Runs.{DoesTurn, RanEvents, Runs, Finishes}
+use Rattle.kronos.specs.declared.run.Stop.{Stop}
+use Rattle.kronos.specs.declared.run.Stop.TheVariants.{Write, Memory}
 
 -- the text that these events have from a world on
 abbrev pub text_on : World → List Event → List ℕ
@@ -42,3 +45,12 @@ one_further first events i old new d held mid held' faults midway faults' within
       rest = so_far.rest ∙ ap (λ t. so_far.written ++ t) (text_on-step events i old.world d within ∙ ap (λ w. lines ++ text_on w (drop (i + 1) events)) (sym now)) ∙ sym (append_assoc so_far.written lines (text_on new.world (drop (i + 1) events)));
       later = omega arith;
     }
+
+-- the run's text is written once its steps and its end are
+pub ended : {U : Type 0} (script : Script) (first last : Standing) (result : Result U Stop) (held mid held' : Option (List ℕ)) (faults midway faults' : ℕ) → first ≡ record { world = first_world script.servers script.clients; failed = false } → RanEvents first script.events last held mid → faults ≤ midway → Finishes last result mid held' midway faults' → Runs script result held held' faults faults'
+ended {U} script first last (Ok done) held mid held' faults midway faults' is ran later wrote =
+    let world : first.world ≡ first_world script.servers script.clients = ap (λ (c : Standing). c.world) is in
+    let text : text_of script ≡ ran.written ++ end_lines last.world.history = ap (λ w. text_on w script.events) (sym world) ∙ ran.text in
+    subst (λ t. Appends held held' t) (sym text) (Appends-trans held mid held' ran.written (end_lines last.world.history) ran.taken wrote)
+ended {U} script first last (Err Write) held mid held' faults midway faults' is ran later wrote = omega arith
+ended {U} script first last (Err Memory) held mid held' faults midway faults' is ran later wrote = tt

@@ -12,6 +12,7 @@ use std::thread::Threads;
 
 mod bad_lines;
 mod batches;
+mod chains;
 mod create_an_event;
 mod faults;
 

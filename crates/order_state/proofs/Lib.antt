@@ -1,3 +1,3 @@
 pub mod StateLemmas
-pub mod PathLemmas
-pub mod PlanLemmas
+pub mod OrderLemmas
+pub mod FitLemmas

@@ -1,10 +1,11 @@
 -- How births, pairs and last entries grow with a history.
-use Rattle.std.proofs.Common.{◌≡◌, ℕ, ◌+◌, ◌≤◌, Bool, true, false, cond, eqb, List, [], ◌∷◌, ◌++◌, length, refl, ap, sym, ◌∙◌, arith}
-use Rattle.std.specs.Prelude.{nat_eq, Option, Some}
+use Rattle.std.proofs.Common.{◌≡◌, ℕ, ◌+◌, ◌≤◌, Bool, true, false, cond, eqb, List, [], ◌∷◌, ◌++◌, length, refl, ap, sym, subst, ◌∙◌, arith}
+use Rattle.std.specs.Prelude.{nat_eq, Option, None, Some}
 use Rattle.std.specs.Option.{option_map}
 use Rattle.std.specs.declared.hash.FoldHasher.{FoldHasher}
 use Rattle.std.specs.declared.hash.BuildHasherDefault.{BuildHasherDefault}
 use Rattle.std.specs.HashMap.{get, HashMap, Updates}
+use Rattle.std.proofs.lemmas.List.{append-nil}
 use Rattle.std.proofs.lemmas.List.Sums.{sum_by-cons}
 use Rattle.kr_order.specs.declared.ids.ClientId.{ClientId}
 use Rattle.kr_order.specs.declared.history.Entry.{Entry}
@@ -12,12 +13,20 @@ use Rattle.kr_order.specs.declared.history.Command.{Command}
 use Rattle.kr_order.specs.declared.history.Command.TheVariants.{Create, Assign}
 use Rattle.kr_order.specs.History.{births_of, born_in}
 use Rattle.kr_order.specs.Done.{done_after, done_of, last_of}
-use Rattle.kr_order.specs.Agreed.{pairs_after, agreed_of}
+use Rattle.kr_order.specs.declared.history.Reply.{Reply}
+use Rattle.kr_order.specs.declared.history.Reply.TheVariants.{Created}
+use Rattle.kr_order.specs.Agreed.{Agreed, pairs_after, agreed_of}
 use Rattle.kr_order.specs.Pairs.{pairs_of}
-use Rattle.kr_order.proofs.HistoryLemmas.{born_in-append, done_of-push, last_of-push}
-use Rattle.kr_order.proofs.PairsLemmas.{pairs_of-push}
+use Rattle.kr_order.specs.Reply.{reply_to}
+use Rattle.kr_order.proofs.HistoryLemmas.{agreed_of-push, born-agreed, done_of-push, last_of-push}
+use Rattle.batch_assign.specs.declared.adds.Plan.{Plan}
 use Rattle.order_state.specs.declared.kept.Kept.{Kept}
-use Rattle.order_state.specs.Kept.{kept_of, IsKeptOf}
+use Rattle.order_state.specs.declared.kept.Prepared.{Prepared}
+use Rattle.order_state.specs.declared.kept.Decision.{Decision}
+use Rattle.order_state.specs.Standing.{Standing}
+use Rattle.order_state.specs.Ordered.{agreed_with}
+use Rattle.order_state.specs.Decision.{adds_of, reply_from, IsDecision}
+use Rattle.order_state.specs.Kept.{kept_of, IsReady, IsKeptOf}
 
 -- a command makes at most one event
 pub births_of-le : (command : Command) → births_of command ≤ 1
@@ -36,12 +45,11 @@ option_map-cond f true x other = refl
 option_map-cond f false x other = refl
 
 -- what a state keeps of one more entry
-pub IsKeptOf-push : (history : List Entry) (born : ℕ) (pairs adds : List (ℕ × ℕ)) (old new : HashMap ℕ Kept (BuildHasherDefault FoldHasher)) (entry : Entry) (kept : Kept) → IsKeptOf history born pairs old → kept ≡ kept_of (done_after history entry) → pairs_after entry.command (agreed_of history) ≡ pairs_of history ++ adds → Updates nat_eq old new entry.client.0 (Some kept) → IsKeptOf (history ++ entry ∷ []) (born + births_of entry.command) (pairs ++ adds) new
-IsKeptOf-push history born pairs adds old new entry kept was is added updates =
+pub IsKeptOf-push : (history : List Entry) (agreed agreed' : Agreed) (old new : HashMap ℕ Kept (BuildHasherDefault FoldHasher)) (entry : Entry) (kept : Kept) → IsKeptOf history agreed old → kept ≡ kept_of (done_after history entry) → agreed' ≡ agreed_with entry.command agreed → Updates nat_eq old new entry.client.0 (Some kept) → IsKeptOf (history ++ entry ∷ []) agreed' new
+IsKeptOf-push history agreed agreed' old new entry kept was is grown updates =
     let done = done_after history entry in
     record {
-      births = omega (arith, born_in-append history (entry ∷ []), was.births);
-      order = ap (λ order. order ++ adds) was.order ∙ sym added ∙ sym (pairs_of-push history entry);
+      order = grown ∙ ap (agreed_with entry.command) was.order ∙ sym (agreed_of-push history entry);
       found = λ client.
           let id : ClientId = record { 0 = client } in
           let changed : get nat_eq new client ≡ cond (eqb entry.client.0 client) (Some kept) (get nat_eq old client) = updates.0 client in
@@ -50,4 +58,33 @@ IsKeptOf-push history born pairs adds old new entry kept was is added updates =
           let parts = option_map-cond kept_of (eqb entry.client.0 client) done (last_of id (done_of history)) in
           let before = was.found client in
           cc;
+    }
+
+-- the reply of a command after a history, by what the history comes to
+pub reply_from-agreed : (history : List Entry) (command : Command) → reply_from (agreed_of history) command ≡ reply_to history command
+reply_from-agreed history Create = ap (λ born. Created (record { 0 = born + 1 })) (born-agreed history)
+reply_from-agreed history (Assign batch) = refl
+
+-- what a create is to do
+pub IsDecision-create : (history : List Entry) (command : Command) (next : ℕ) → command ≡ Create → next ≡ born_in history + 1 → IsDecision (agreed_of history) command (record { reply = Created (record { 0 = next }); plan = None })
+IsDecision-create history command next create is =
+    record {
+      reply = ap (λ n. Created (record { 0 = n })) (is ∙ sym (ap (λ n. n + 1) (born-agreed history))) ∙ ap (reply_from (agreed_of history)) (sym create);
+      adds = ap (λ (c : Command). pairs_after c (agreed_of history)) create ∙ sym (append-nil (pairs_of history));
+    }
+
+-- what is prepared of a decision is ready
+pub IsReady-decided : (standing : Standing) (before : List Entry) (entry : Entry) (decision : Decision) (place : ℕ) (reply : Reply) → standing.history ≡ before → IsDecision (agreed_of before) entry.command decision → place ≡ length standing.history + 1 → reply ≡ decision.reply → 1 ≤ standing.room → births_of entry.command ≤ standing.event_room → length (adds_of decision.plan) ≤ standing.pair_room → IsReady standing (record { entry = entry; kept = record { seq = entry.seq; place = place; reply = reply }; reply = decision.reply; plan = decision.plan })
+IsReady-decided standing before entry decision place reply same is is_place is_reply room event_room pair_room =
+    let decided : IsDecision (agreed_of standing.history) entry.command decision = subst (λ h. IsDecision (agreed_of h) entry.command decision) (sym same) is in
+    let replies : decision.reply ≡ reply_to standing.history entry.command = decided.reply ∙ reply_from-agreed standing.history entry.command in
+    record {
+      reply = replies;
+      kept =
+          let copied : reply ≡ reply_to standing.history entry.command = is_reply ∙ replies in
+          ap (λ n. record { seq = entry.seq; place = n; reply = reply }) is_place ∙ ap (λ r. record { seq = entry.seq; place = length standing.history + 1; reply = r }) copied;
+      adds = decided.adds;
+      room = room;
+      event_room = event_room;
+      pair_room = pair_room;
     }

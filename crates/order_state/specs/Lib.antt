@@ -1,5 +1,5 @@
+pub mod Ordered
+pub mod Decision
 pub mod Standing
 pub mod Kept
-pub mod Path
-pub mod Draft
-pub mod Plan
+pub mod Board

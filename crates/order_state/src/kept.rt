@@ -1,6 +1,8 @@
 //! What a state keeps of a client's last entry, and an entry with what applying it takes.
 
-use kr_order::{Entry, Reply};
+use batch_assign::Plan;
+use kr_order::{Copied, Entry, NoMemory, Reply};
+use std::alloc::Global;
 
 /// A client's last entry, without its command.
 #[derive(Debug, Drop)]
@@ -21,6 +23,23 @@ pub struct Prepared {
     pub kept: Kept,
     /// What `State::apply` will answer: the reply in `kept` once more.
     pub reply: Reply,
-    /// The pairs that the entry adds to the order, by the numbers of their events.
-    pub adds: Vec<(u64, u64)>,
+    /// The pairs that the entry adds to the order, where it is a batch that is accepted.
+    pub plan: Option<Plan>,
+}
+
+// What a command is to do.
+#[derive(Debug, Drop)]
+pub(crate) struct Decision {
+    pub reply: Reply,
+    pub plan: Option<Plan>,
+}
+
+impl Copied for Kept {
+    fn copy(&self, alloc: Global) -> Result<Self, NoMemory> {
+        Ok(Kept {
+            seq: self.seq,
+            place: self.place,
+            reply: self.reply.copy(alloc)?,
+        })
+    }
 }

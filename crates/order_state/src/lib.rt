@@ -5,16 +5,20 @@
 //!
 //! No call walks the history: the cost of a create is constant, but for the steps at which a table grows to a
 //! multiple of its size. An answer takes at most two searches for a path, and a batch at most two for each of
-//! its pairs. A search goes over the pairs of the order at most once for each event that it finds, and once more.
+//! its pairs. A search clears nothing, takes up each event that it finds once, and looks at each of its pairs once.
 #![tactic(auto)]
 
-mod draft;
+mod board;
+#[cfg(test)]
+mod compared;
 mod kept;
-mod path;
-mod plan;
+mod order;
+#[cfg(test)]
+mod plain;
 mod state;
 #[cfg(test)]
 mod tests;
 
+pub use board::{Board, PlainBoard};
 pub use kept::{Kept, Prepared};
 pub use state::State;

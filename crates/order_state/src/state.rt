@@ -1,60 +1,75 @@
-//! The state: the entries of the history, what they come to, and each client's last entry.
+//! The state: the entries of the history, the order that they come to, and each client's last entry.
 
-ghost use Rattle.std.specs.Prelude.{◌≡◌, ◌+◌, ◌^◌, ◌<◌, ◌≤◌, [], ◌∷◌, ◌++◌, true, length, IfOk, OnOk};
-ghost use Rattle.std.specs.List.{All};
+ghost use Rattle.std.specs.Prelude.{◌≡◌, ◌+◌, ◌^◌, ◌<◌, ◌≤◌, [], ◌∷◌, ◌++◌, length, IfOk, OnOk};
 ghost use Rattle.std.specs.Option.{option_copied, option_map};
 ghost use Rattle.kr_order.specs.History.{births_of, born_in};
-ghost use Rattle.kr_order.specs.Agreed.{agreed_of, is_live};
+ghost use Rattle.kr_order.specs.Agreed.{agreed_of};
 ghost use Rattle.kr_order.specs.Pairs.{pairs_of};
 ghost use Rattle.kr_order.specs.Reply.{reply_to};
-ghost use Rattle.kr_order.specs.Answer.{answer_to};
 ghost use Rattle.kr_order.specs.Done.{done_of, last_of, seq_of};
 ghost use Rattle.order_state.specs.Kept.{kept_of, IsReady};
-ghost use Rattle.order_state.specs.Path.{IsBelow};
-ghost use Rattle.order_state.specs.Plan.{IsPlan};
+ghost use Rattle.order_state.specs.Decision.{adds_of, IsDecision};
 
-use crate::draft::Draft;
-use crate::path::answer_over;
-use crate::plan::{Plan, adds_nothing, checked, first_unmade, is_made};
+use crate::kept::Decision;
+use crate::order::Order;
 use crate::{Kept, Prepared};
-use kr_order::{Answer, ClientId, Command, Copied, Entry, EventId, NoMemory, Pair, Reply};
+use batch_assign::Plan;
+use kr_order::{Answer, ClientId, Command, Copied, Entry, EventId, NoMemory, Reply, Steps};
+use reach::{Asks, Scratch};
 use std::alloc::Global;
 use std::collections::HashMap;
-use std::marker::Model;
+use std::marker::{Brand, Model};
+use std::sync::ledger::{Blank, Ledger};
 
 /// The replicated state of the order.
 #[derive(Debug, Drop)]
 pub struct State {
     entries: Vec<Entry>,
-    born: u64,
-    // the order, by the numbers of the events, the oldest pair first
-    pairs: Vec<(u64, u64)>,
+    order: Order,
     // a client's last entry, by the client's number
     last: HashMap<u32, Kept>,
+    // for the searches of the batches that are prepared
+    scratch: Scratch,
 }
 
 impl Model for State {
     ghost use Rattle.std.specs.Prelude.{◌-◌, min, vec_len};
     ghost use Rattle.std.specs.Vec.{vec_capacity};
     ghost use Rattle.std.specs.HashMap.{spare};
+    ghost use Rattle.order_state.specs.Ordered.{agreed_in};
     ghost use Rattle.order_state.specs.Standing.{Standing};
     ghost use Rattle.order_state.specs.Kept.{IsKeptOf};
 
     ghost Value = { Standing };
 
-    ghost view = { λ s. record { history = s.entries.items; room = min (vec_capacity s.entries - vec_len s.entries) (spare s.last); pair_room = vec_capacity s.pairs - vec_len s.pairs } };
+    ghost view = { λ s. record {
+      history = s.entries.items;
+      cells = s.order.cells;
+      room = min (vec_capacity s.entries - vec_len s.entries) (spare s.last);
+      event_room = s.order.event_room;
+      pair_room = s.order.pair_room;
+    } };
 
-    ghost invariant = { λ s. IsKeptOf s.entries.items s.born s.pairs.items s.last };
+    ghost invariant = { λ s. IsKeptOf s.entries.items (agreed_in s.order) s.last };
 }
 
 // How many events the command makes.
-fn births(command: &Command) -> u64
-    ensures value { result ≡ births_of command.now }
-    ensures small { result ≤ 1 }
+fn births(command: &Command) -> usize
+    ensures { result ≡ births_of command.now }
 {
     match command {
         Command::Create => 1,
         Command::Assign(_) => 0,
+    }
+}
+
+// How many pairs the plan adds, if there is one.
+fn added(plan: &Option<Plan>) -> usize
+    ensures { result ≡ length (adds_of plan.now) }
+{
+    match plan {
+        Some(plan) => plan.adds.len(),
+        None => 0,
     }
 }
 
@@ -65,24 +80,56 @@ impl State {
     {
         State {
             entries: Vec::new(alloc),
-            born: 0,
-            pairs: Vec::new(alloc),
+            order: Order::new(alloc),
             last: HashMap::new(alloc),
+            scratch: Scratch::new(alloc),
         }
     }
 
-    // Makes room for one more entry, and for so many pairs.
-    fn reserve(&mut self, pairs: usize) -> Result<(), NoMemory>
+    // Makes room for one more entry, and for so many events and pairs.
+    fn reserve(&mut self, events: usize, pairs: usize) -> Result<(), NoMemory>
         ensures history { self.new.history ≡ self.old.history }
         ensures room { OnOk result (1 ≤ self.new.room) }
+        ensures event_room { OnOk result (events ≤ self.new.event_room) }
         ensures pair_room { OnOk result (pairs ≤ self.new.pair_room) }
         ensures keeps_room { self.old.room ≤ self.new.room }
+        ensures keeps_event_room { self.old.event_room ≤ self.new.event_room }
         ensures keeps_pair_room { self.old.pair_room ≤ self.new.pair_room }
     {
         self.entries.reserve(1)?;
         self.last.reserve(1)?;
-        self.pairs.reserve(pairs)?;
+        self.order.reserve(events, pairs)?;
         Ok(())
+    }
+
+    // What a command at the next place is to do.
+    fn decide<L: Ledger>(&mut self, command: &Command, blank: Blank) -> Result<Decision, NoMemory>
+        requires name { blank.name ≡ L.name }
+        requires parts { blank.parts ≡ L.parts }
+        requires some { 0 < blank.parts }
+        ensures state { self.new ≡ self.old }
+        ensures decision { IfOk result (IsDecision (agreed_of self.old.history) command.now) }
+    {
+        let mut steps = Steps::<L>::new(blank);
+        match command {
+            Command::Create => Ok(Decision {
+                reply: Reply::Created(EventId(self.next_event())),
+                plan: None,
+            }),
+            Command::Assign(batch) => {
+                let alloc = *self.entries.allocator();
+                self.order.fit(&mut self.scratch)?;
+                self.order
+                    .decide(alloc, batch, &mut self.scratch, &mut steps)
+            }
+        }
+    }
+
+    // The number of the event that the next create makes.
+    fn next_event(&self) -> u64
+        ensures { result ≡ born_in self.now.history + 1 }
+    {
+        self.order.born() + 1
     }
 
     /// Makes room for one more entry, and all that applying this one takes. After `NoMemory`, which comes
@@ -93,11 +140,12 @@ impl State {
         ensures entry { IfOk result (λ p. p.entry ≡ entry.now) }
         ensures ready { IfOk result (IsReady self.new) }
         ensures room { self.old.room ≤ self.new.room }
+        ensures event_room { self.old.event_room ≤ self.new.event_room }
         ensures pair_room { self.old.pair_room ≤ self.new.pair_room }
     {
         let alloc = *self.entries.allocator();
-        let Plan { reply, adds } = self.plan(&entry.command)?;
-        self.reserve(adds.len())?;
+        let Decision { reply, plan } = self.decide::<Brand>(&entry.command, Blank::new(1))?;
+        self.reserve(births(&entry.command), added(&plan))?;
         let kept = Kept {
             seq: entry.seq,
             place: self.count() + 1,
@@ -107,36 +155,8 @@ impl State {
             entry: entry.copy(alloc)?,
             kept,
             reply,
-            adds,
+            plan,
         })
-    }
-
-    // What a command at the next place is to do.
-    fn plan(&self, command: &Command) -> Result<Plan, NoMemory>
-        ensures { IfOk result (IsPlan self.now.history command.now) }
-    {
-        match command {
-            Command::Create => {
-                let alloc = *self.entries.allocator();
-                Ok(adds_nothing(alloc, Reply::Created(EventId(self.next_event()))))
-            }
-            Command::Assign(batch) => self.plan_batch(batch.as_slice()),
-        }
-    }
-
-    // What a batch at the next place is to do.
-    fn plan_batch(&self, batch: &[Pair]) -> Result<Plan, NoMemory>
-        requires { length batch.now ≤ 32 }
-        ensures { IfOk result (IsPlan self.now.history (Command.Assign batch.now)) }
-    {
-        let alloc = *self.entries.allocator();
-        match first_unmade(self.born(), batch) {
-            Some(i) => Ok(adds_nothing(alloc, Reply::Unknown(i))),
-            None => {
-                let draft = Draft::new(alloc, self.next_event() as usize, self.order())?;
-                checked(alloc, draft, batch)
-            }
-        }
     }
 
     /// Puts a prepared entry at the end of the history, and gives its reply. It takes no memory.
@@ -146,20 +166,18 @@ impl State {
         ensures history { self.new.history ≡ self.old.history ++ prepared.entry ∷ [] }
         ensures reply { result ≡ reply_to self.old.history prepared.entry.command }
         ensures room { self.old.room ≤ self.new.room + 1 }
-        ensures pair_room { self.old.pair_room ≤ self.new.pair_room + length prepared.adds.items }
+        ensures event_room { self.old.event_room ≤ self.new.event_room + births_of prepared.entry.command }
+        ensures pair_room { self.old.pair_room ≤ self.new.pair_room + length (adds_of prepared.plan) }
     {
         let Prepared {
             entry,
             kept,
             reply,
-            adds,
+            plan,
         } = prepared;
         let client = entry.client.0;
-        let made = births(&entry.command);
-        self.born += made;
+        self.order.apply(&entry.command, plan);
         self.entries.push_reserved(entry);
-        let added: Result<_, _> = self.pairs.extend_from_slice(adds.as_slice());
-        added.unwrap();
         let inserted: Result<_, _> = self.last.insert(client, kept);
         let _ = inserted.unwrap();
         reply
@@ -193,42 +211,52 @@ impl State {
     pub fn born(&self) -> u64
         ensures { result ≡ born_in self.now.history }
     {
-        self.born
+        self.order.born()
     }
 
-    /// How `a` stands to `b`; `Unknown` where one of them is not live. The memory that it takes is for the search
-    /// for a path, and `NoMemory` comes where there is none for it.
-    pub fn answer(&self, a: EventId, b: EventId) -> Result<Answer, NoMemory>
-        ensures { IfOk result (λ answer. answer ≡ answer_to self.now.history a.0 b.0) }
+    /// How many events the order has: all that the history has made.
+    pub fn held(&self) -> u64
+        ensures { result ≡ born_in self.now.history }
     {
-        if !(self.is_live(a) && self.is_live(b)) {
-            return Ok(Answer::Unknown);
-        }
-        let alloc = *self.entries.allocator();
-        let mut marks = vec![in alloc; false; self.next_event() as usize]?;
-        Ok(answer_over(self.order(), a.0, b.0, marks.as_mut_slice()))
+        self.order.held()
     }
 
-    // The number of the event that the next create makes.
-    fn next_event(&self) -> u64
-        ensures { result ≡ born_in self.now.history + 1 }
+    /// How many pairs the order has.
+    pub fn pairs_held(&self) -> u64
+        ensures { result ≡ length (pairs_of self.now.history) }
     {
-        self.born + 1
+        self.order.pairs_held()
+    }
+}
+
+impl Asks for State {
+    ghost use Rattle.std.specs.Prelude.{length};
+    ghost use Rattle.kr_order.specs.History.{born_in};
+    ghost use Rattle.kr_order.specs.Pairs.{pairs_of};
+
+    ghost history = { λ s. s.history };
+
+    ghost cells = { λ s. s.cells };
+
+    ghost held = { λ s. born_in s.history };
+
+    ghost pairs_held = { λ s. length (pairs_of s.history) };
+
+    fn fit(&self, scratch: &mut Scratch) -> Result<(), NoMemory> {
+        self.order.fit(scratch)
     }
 
-    // The pairs of the order; all their events were made.
-    fn order(&self) -> &[(u64, u64)]
-        ensures value { result.now ≡ pairs_of self.now.history }
-        ensures below { All (IsBelow (born_in self.now.history + 1)) result.now }
-    {
-        self.pairs.as_slice()
+    fn answer<L: Ledger>(
+        &self,
+        scratch: &mut Scratch,
+        a: EventId,
+        b: EventId,
+        steps: &mut Steps<L>,
+    ) -> Answer {
+        self.order.answer(scratch, a, b, steps)
     }
 
-    // Whether the event is live: while no reference can be released, whether it was made.
-    fn is_live(&self, event: EventId) -> bool
-        ensures live { result ≡ is_live (agreed_of self.now.history) event.0 }
-        ensures made { result ≡ true → event.0 ≤ born_in self.now.history }
-    {
-        is_made(self.born(), event)
+    fn entry(&self) -> u64 {
+        self.count()
     }
 }

@@ -1,9 +1,16 @@
 //! Each call of a state, where memory suffices.
 
+ghost use Rattle.std.specs.Prelude.{◌≡◌, ◌<◌};
+
 use super::*;
-use kr_order::{Answer, Batch, ClientId, Command, Entry, EventId, Kind, NoMemory, Pair, PushStop};
+use kr_order::{
+    Answer, Batch, ClientId, Command, Entry, EventId, Kind, NoMemory, Pair, PushStop, Steps,
+};
+use reach::{Asks, Scratch};
 use std::alloc::Global;
+use std::marker::Brand;
 use std::process::Abort;
+use std::sync::ledger::{Blank, Ledger};
 use std::test::Fail;
 
 const MUST: Kind = Kind::Must;
@@ -56,12 +63,37 @@ fn done(
 }
 
 // The answer to two events is this one.
-fn answers(rt: &impl Abort, state: &State, a: u64, b: u64, answer: Answer) -> Result<(), NoMemory> {
-    assert_eq!(rt;
-        state.answer(EventId(a), EventId(b))?,
-        answer,
-        "{a} and {b}"
-    );
+fn answers<L: Ledger>(
+    rt: &impl Abort,
+    state: &State,
+    scratch: &mut Scratch,
+    steps: &mut Steps<L>,
+    row: (u64, u64, Answer),
+) -> Result<(), NoMemory> {
+    let (a, b, answer) = row;
+    state.fit(scratch)?;
+    let given = state.answer(scratch, EventId(a), EventId(b), steps);
+    assert_eq!(rt; given, answer, "{a} and {b}");
+    Ok(())
+}
+
+// So it is with each of these.
+fn all_answers<L: Ledger>(
+    rt: &impl Abort,
+    alloc: Global,
+    state: &State,
+    rows: &[(u64, u64, Answer)],
+    blank: Blank,
+) -> Result<(), NoMemory>
+    requires name { blank.name ≡ L.name }
+    requires parts { blank.parts ≡ L.parts }
+    requires some { 0 < blank.parts }
+{
+    let mut steps = Steps::<L>::new(blank);
+    let mut scratch = Scratch::new(alloc);
+    for row in rows {
+        answers(rt, state, &mut scratch, &mut steps, *row)?;
+    }
     Ok(())
 }
 
@@ -114,32 +146,30 @@ fn batches(rt: &impl Abort, alloc: Global, state: &mut State) -> Result<(), Fail
 }
 
 // A shop: event 1 is an order, 2 its payment, 3 its parcel, 4 a mail about it. Clients 2 and 9 take turns.
-#[test]
-fn a_shop_orders_its_events(rt: HostRuntime) -> Result<(), Fail> {
-    let alloc = rt.alloc();
+fn shop(rt: &impl Abort, alloc: Global) -> Result<State, Fail> {
     let mut state = State::new(alloc);
-    crosses_threads(&state);
     assert_eq!(rt; (state.count(), state.born()), (0, 0));
-    answers(&rt, &state, 1, 1, Answer::Unknown)?;
+    done(rt, alloc, &mut state, 2, Command::Create, "created 1")?;
+    done(rt, alloc, &mut state, 9, Command::Create, "created 2")?;
+    done(rt, alloc, &mut state, 2, Command::Create, "created 3")?;
+    done(rt, alloc, &mut state, 9, Command::Create, "created 4")?;
+    batches(rt, alloc, &mut state)?;
+    Ok(state)
+}
 
-    done(&rt, alloc, &mut state, 2, Command::Create, "created 1")?;
-    done(&rt, alloc, &mut state, 9, Command::Create, "created 2")?;
-    done(&rt, alloc, &mut state, 2, Command::Create, "created 3")?;
-    done(&rt, alloc, &mut state, 9, Command::Create, "created 4")?;
-    answers(&rt, &state, 1, 2, Answer::Concurrent)?;
+#[test]
+fn the_empty_history_has_no_event(rt: HostRuntime) -> Result<(), Fail> {
+    let state = State::new(rt.alloc());
+    crosses_threads(&state);
+    let rows = [(1, 1, Answer::Unknown)];
+    all_answers::<Brand>(&rt, rt.alloc(), &state, &rows, Blank::new(1))?;
+    Ok(())
+}
 
-    batches(&rt, alloc, &mut state)?;
-    for (a, b, answer) in [
-        (1, 3, Answer::Before),
-        (3, 1, Answer::After),
-        (4, 3, Answer::Before),
-        (1, 4, Answer::Concurrent),
-        (2, 2, Answer::Same),
-        (5, 5, Answer::Unknown),
-        (0, 1, Answer::Unknown),
-    ] {
-        answers(&rt, &state, a, b, answer)?;
-    }
+#[test]
+fn a_shop_keeps_its_clients_last_entries(rt: HostRuntime) -> Result<(), Fail> {
+    let alloc = rt.alloc();
+    let state = shop(&rt, alloc)?;
     keeps(&rt, alloc, &state, 2, 6, 12, "assigned")?;
     keeps(&rt, alloc, &state, 9, 6, 11, "unknown 0")?;
     assert!(rt; state.last(ClientId(3)).is_none());
@@ -147,5 +177,25 @@ fn a_shop_orders_its_events(rt: HostRuntime) -> Result<(), Fail> {
         (state.count(), state.born(), state.highest(ClientId(3))),
         (12, 4, 0)
     );
+    assert_eq!(rt;
+        (state.entry(), state.held(), state.pairs_held()),
+        (12, 4, 3)
+    );
+    Ok(())
+}
+
+#[test]
+fn a_shop_orders_its_events(rt: HostRuntime) -> Result<(), Fail> {
+    let state = shop(&rt, rt.alloc())?;
+    let rows = [
+        (1, 3, Answer::Before),
+        (3, 1, Answer::After),
+        (4, 3, Answer::Before),
+        (1, 4, Answer::Concurrent),
+        (2, 2, Answer::Same),
+        (5, 5, Answer::Unknown),
+        (0, 1, Answer::Unknown),
+    ];
+    all_answers::<Brand>(&rt, rt.alloc(), &state, &rows, Blank::new(1))?;
     Ok(())
 }

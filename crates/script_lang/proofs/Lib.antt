@@ -4,5 +4,6 @@ pub mod WordLemmas
 pub mod PairLemmas
 pub mod EventLemmas
 pub mod KindLemmas
+pub mod SizeLemmas
 pub mod ScriptLemmas
 mod Spellings

@@ -1,4 +1,4 @@
--- A script with a line of each kind.
+-- A script with a line of each kind, and one of three servers.
 use Rattle.std.specs.Prelude.{ℕ, List, [], ◌∷◌}
 use Rattle.kr_order.specs.declared.ids.EventId.{EventId}
 use Rattle.kr_order.specs.declared.ids.ClientId.{ClientId}
@@ -43,3 +43,6 @@ each_kind_of_event =
 
 abbrev pub each_kind : Script
 each_kind = record { servers = 1; clients = 1; events = each_kind_of_event }
+
+abbrev pub of_three : Script
+of_three = record { servers = 3; clients = 1; events = Call (client 1) Create ∷ Deliver 1 ∷ [] }

@@ -1,15 +1,22 @@
 //! The reader of scripts.
 
-ghost use Rattle.std.specs.Prelude.{IfSome, IfNone};
-ghost use Rattle.script_lang.specs.Script.{BeginsWithSize};
+ghost use Rattle.std.specs.Prelude.{◌↔◌, IsTrue, IfSome, IfNone};
+ghost use Rattle.script_lang.specs.Script.{BeginsWithSize, MayStand};
 ghost use Rattle.script_lang.specs.Reading.{Reads, ReadsSize};
 
 use crate::events::event_of;
 use crate::line::{behind, split_line};
-use crate::{Script, ScriptEvents};
+use crate::numbers::two_in_front;
+use crate::{Event, Script, ScriptEvents};
 use kr_order::NoMemory;
 use std::alloc::Global;
 use thiserror::Error;
+
+// The greatest number of servers that a run may begin with.
+const MOST_SERVERS: u64 = 8;
+
+// That of clients.
+const MOST_CLIENTS: u64 = 1;
 
 /// Why bytes are not read as a script.
 #[derive(Clone, Copy, Debug, PartialEq, Eq, Error)]
@@ -34,7 +41,8 @@ impl From<NoMemory> for ScriptStop {
 }
 
 /// The script that the bytes spell. `BadLine` comes exactly where they spell none, with the number of the first
-/// line that is not in the grammar; bytes with no line at all have their bad line at 1.
+/// line that is not in the grammar; bytes with no line at all have their bad line at 1. A `query` or `work` line
+/// is bad where the first line gives more than one server.
 pub fn read_script(alloc: Global, bytes: &[u8]) -> Result<Script, ScriptStop>
     ensures { Reads bytes.now result }
 {
@@ -50,6 +58,9 @@ pub fn read_script(alloc: Global, bytes: &[u8]) -> Result<Script, ScriptStop>
         let Some(event) = event_of(alloc, text)? else {
             return Err(ScriptStop::BadLine(line));
         };
+        if !may_stand(servers, &event) {
+            return Err(ScriptStop::BadLine(line));
+        }
         events.push(event)?;
         rest = more;
     }
@@ -60,11 +71,26 @@ pub fn read_script(alloc: Global, bytes: &[u8]) -> Result<Script, ScriptStop>
     })
 }
 
+// Whether the event may stand in a script of so many servers.
+fn may_stand(servers: u32, event: &Event) -> bool
+    ensures { IsTrue result ↔ MayStand servers event.now }
+{
+    match event {
+        Event::Call { .. } | Event::Deliver(_) => true,
+        Event::Query { .. } | Event::Work { .. } => servers == 1,
+    }
+}
+
 // The numbers of servers and clients in the first line, and what follows it.
 fn size_line(bytes: &[u8]) -> Option<(u32, u32, &[u8])>
     ensures some { IfSome result (λ read. ReadsSize bytes.now read.0 read.1 read.2.now) }
     ensures none { IfNone result (BeginsWithSize bytes.now → ⊥) }
 {
-    let rest = behind(bytes, b"cluster 1 1\n")?;
-    Some((1, 1, rest))
+    let numbers = behind(bytes, b"cluster ")?;
+    let (servers, sign, clients, end) = two_in_front(numbers, MOST_SERVERS, MOST_CLIENTS)?;
+    if sign != b' ' {
+        return None;
+    }
+    let rest = behind(end, b"\n")?;
+    Some((servers as u32, clients as u32, rest))
 }

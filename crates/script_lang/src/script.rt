@@ -11,13 +11,15 @@ pub enum Event {
         client: ClientId,
         command: Command,
     },
-    /// `query c s Q Q ..` with a word `a,b` for each pair: the client asks the server about the pairs.
+    /// `query c s Q Q ..` with a word `a,b` for each pair: the client asks the server about the pairs. It stands
+    /// only in a script of one server.
     Query {
         client: ClientId,
         server: ServerId,
         pairs: Asked,
     },
-    /// `work s w`: the server answers the queries that wait there, by so many workers.
+    /// `work s w`: the server answers the queries that wait there, by so many workers. It stands only in a
+    /// script of one server.
     Work {
         server: ServerId,
         workers: u32,
@@ -29,7 +31,7 @@ pub enum Event {
 /// The events of a script, in order.
 pub type ScriptEvents = Listed<Event>;
 
-/// How many servers and clients a run begins with, and what happens in it.
+/// How many servers and clients a run begins with, 1 to 8 servers and one client, and what happens in it.
 #[derive(Debug, Drop)]
 pub struct Script {
     pub servers: u32,

@@ -3,7 +3,7 @@
 ghost use Rattle.std.specs.Prelude.{◌≡◌};
 ghost use Rattle.kr_world.specs.FullBag.{AFullBagRefuses};
 ghost use Rattle.kr_world.specs.Run.{text_of};
-ghost use Rattle.kr_world.specs.Rows.{create_an_event, create_an_event_text, request_delivered_twice, request_delivered_twice_text, refused_steps, refused_steps_text, two_events, two_events_text, concurrent_events, concurrent_events_text, bound_events, bound_events_text};
+ghost use Rattle.kr_world.specs.Rows.{create_an_event, create_an_event_text, request_delivered_twice, request_delivered_twice_text, refused_steps, refused_steps_text, two_events, two_events_text, concurrent_events, concurrent_events_text, bound_events, bound_events_text, three_servers, three_servers_text, down_the_chain, down_the_chain_text, entries_come_again, entries_come_again_text};
 
 /// One server, one client, one create.
 pub fn one_create()
@@ -26,7 +26,7 @@ pub fn events_are_numbered_in_order()
     ensures { text_of two_events ≡ two_events_text }
 {}
 
-/// A full bag refuses each call of an idle client, and each delivery.
+/// A full bag refuses each call and each query of an idle client, each delivery, and each server's work.
 pub fn a_full_bag_refuses()
     ensures { AFullBagRefuses }
 {}
@@ -39,4 +39,20 @@ pub fn an_answer_is_told_once()
 /// A must binds, a prefer against it is reversed, a must against it is refused, and queries tell so.
 pub fn a_must_binds()
     ensures { text_of bound_events ≡ bound_events_text }
+{}
+
+/// Three servers to which nothing happens.
+pub fn an_empty_run_has_no_history()
+    ensures { text_of three_servers ≡ three_servers_text }
+{}
+
+/// A create goes down a chain of three and is replied by the tail; the acknowledgements come up the chain, a newer
+/// one before an older one.
+pub fn a_create_goes_down_the_chain()
+    ensures { text_of down_the_chain ≡ down_the_chain_text }
+{}
+
+/// Entries that come twice, and older ones after newer ones, are acknowledged again and not taken twice.
+pub fn entries_are_taken_once()
+    ensures { text_of entries_come_again ≡ entries_come_again_text }
 {}

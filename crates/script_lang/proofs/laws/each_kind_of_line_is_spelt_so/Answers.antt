@@ -4,7 +4,8 @@ use Rattle.std.specs.Fmt.{digits}
 use Rattle.std.proofs.lemmas.List.Elements.{All-from_recursion}
 use Rattle.script_lang.specs.Number.{IsFromOneTo}
 use Rattle.script_lang.specs.Event.{IsEvent, IsEventNumber, IsPair, IsAskedPair}
-use Rattle.script_lang.specs.Rows.{must, prefer, asked, pairs_of_batch, pairs_of_query, each_kind_of_event}
+use Rattle.script_lang.specs.Rows.{must, prefer, asked, pairs_of_batch, pairs_of_query, each_kind, each_kind_of_event, of_three}
+use Rattle.script_lang.specs.Script.{MayStand, IsScript}
 use Rattle.script_lang.proofs.laws.each_kind_of_line_is_spelt_so.Goals as goal
 
 in_range : (most n : ℕ) → 1 ≤ n → n ≤ most → IsFromOneTo most n
@@ -46,6 +47,20 @@ each_fits = All-from_recursion IsEvent each_kind_of_event (
   ),
 )
 
+each_stands : All (MayStand 1) each_kind_of_event
+each_stands = All-from_recursion (MayStand 1) each_kind_of_event (tt, (tt, (tt, (refl, (refl, (tt, tt))))))
+
+each_kind_fits : IsScript each_kind
+each_kind_fits = record { size = record { servers_fit = in_range 8 1 (omega arith) (omega arith); one_client = refl }; each = each_fits; stand = each_stands }
+
+of_three_fits : IsScript of_three
+of_three_fits =
+    record {
+      size = record { servers_fit = in_range 8 3 (omega arith) (omega arith); one_client = refl };
+      each = All-from_recursion IsEvent of_three.events (record { client_fits = in_range 4294967295 1 (omega arith) (omega arith); command_fits = tt }, (in_range 4294967295 1 (omega arith) (omega arith), tt));
+      stand = All-from_recursion (MayStand 3) of_three.events (tt, (tt, tt));
+    }
+
 pub returns : goal.returns
 unfolding digits
-returns c = record { fit = record { size = record { one_server = refl; one_client = refl }; each = each_fits }; spelt = refl }
+returns c = (record { fit = each_kind_fits; spelt = refl }, record { fit = of_three_fits; spelt = refl })

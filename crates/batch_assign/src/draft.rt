@@ -1,0 +1,172 @@
+//! The pairs that a batch is to add, as they are found one after the other. The order that counts for the next pair
+//! is that of the graph with the pairs that were found before.
+
+ghost use Rattle.std.specs.Prelude.{◌≡◌, ◌≤◌, ◌&&◌, true, false, length, IfOk, OnOk};
+ghost use Rattle.std.specs.List.{All};
+ghost use Rattle.kr_order.specs.Batch.{is_must, forbids, with_pair, with_must, with_prefer, musts_from, prefers_from, contradicts, outcome_of, outcomes_from};
+ghost use Rattle.reach.specs.Search.{AreHeld};
+ghost use Rattle.batch_assign.specs.Plan.{IsPairHeld, IsBatchHeld, order_with, CanBeAdded};
+
+use crate::Adds;
+use dep_graph::Graph;
+use kr_order::{EventId, Kind, NoMemory, Outcome, Outcomes, Pair, Steps};
+use reach::{Scratch, reaches_with};
+use std::alloc::Global;
+use std::sync::ledger::Ledger;
+
+// Whether the order forbids the pair.
+fn forbids<L: Ledger>(
+    graph: &Graph,
+    adds: &[(EventId, EventId)],
+    scratch: &mut Scratch,
+    pair: &Pair,
+    steps: &mut Steps<L>,
+) -> bool
+    requires fits { length graph.now.slots ≤ scratch.old }
+    requires pair { IsPairHeld graph.now.vertices pair.now }
+    requires adds { All (AreHeld graph.now.vertices) adds.now }
+    ensures value { result ≡ forbids (order_with graph.now adds.now) pair.now }
+    ensures room { scratch.new ≡ scratch.old }
+{
+    pair.first.0 == pair.second.0
+        || reaches_with(graph, adds, scratch, pair.second, pair.first, steps)
+}
+
+// Adds a pair that the order does not forbid, where no path says it already.
+fn add<L: Ledger>(
+    graph: &Graph,
+    adds: &mut Adds,
+    scratch: &mut Scratch,
+    pair: &Pair,
+    steps: &mut Steps<L>,
+) -> Result<(), NoMemory>
+    requires fits { length graph.now.slots ≤ scratch.old }
+    requires pair { IsPairHeld graph.now.vertices pair.now }
+    requires adds { CanBeAdded graph.now adds.old }
+    requires allowed { forbids (order_with graph.now adds.old) pair.now ≡ false }
+    ensures order { OnOk result (order_with graph.now adds.new ≡ with_pair (order_with graph.now adds.old) pair.now) }
+    ensures adds { OnOk result (CanBeAdded graph.now adds.new) }
+    ensures room { scratch.new ≡ scratch.old }
+{
+    if !reaches_with(
+        graph,
+        adds.as_slice(),
+        scratch,
+        pair.first,
+        pair.second,
+        steps,
+    ) {
+        adds.push((pair.first, pair.second))?;
+    }
+    Ok(())
+}
+
+// Adds the pair if it is a must. Whether it is one that the order forbids, and then nothing is added.
+fn add_must<L: Ledger>(
+    graph: &Graph,
+    adds: &mut Adds,
+    scratch: &mut Scratch,
+    pair: &Pair,
+    steps: &mut Steps<L>,
+) -> Result<bool, NoMemory>
+    requires fits { length graph.now.slots ≤ scratch.old }
+    requires pair { IsPairHeld graph.now.vertices pair.now }
+    requires adds { CanBeAdded graph.now adds.old }
+    ensures stops { IfOk result (λ stops. stops ≡ (is_must pair.now.kind && forbids (order_with graph.now adds.old) pair.now)) }
+    ensures order { IfOk result (λ stops. stops ≡ false → order_with graph.now adds.new ≡ with_must (order_with graph.now adds.old) pair.now) }
+    ensures adds { OnOk result (CanBeAdded graph.now adds.new) }
+    ensures room { scratch.new ≡ scratch.old }
+{
+    match pair.kind {
+        Kind::Must => {
+            if forbids(graph, adds.as_slice(), scratch, pair, steps) {
+                return Ok(true);
+            }
+            add(graph, adds, scratch, pair, steps)?;
+            Ok(false)
+        }
+        Kind::Prefer => Ok(false),
+    }
+}
+
+// Adds the pair if it is a prefer that the order does not forbid. What becomes of it.
+fn add_prefer<L: Ledger>(
+    graph: &Graph,
+    adds: &mut Adds,
+    scratch: &mut Scratch,
+    pair: &Pair,
+    steps: &mut Steps<L>,
+) -> Result<Outcome, NoMemory>
+    requires fits { length graph.now.slots ≤ scratch.old }
+    requires pair { IsPairHeld graph.now.vertices pair.now }
+    requires adds { CanBeAdded graph.now adds.old }
+    ensures outcome { IfOk result (λ outcome. outcome ≡ outcome_of (order_with graph.now adds.old) pair.now) }
+    ensures order { OnOk result (order_with graph.now adds.new ≡ with_prefer (order_with graph.now adds.old) pair.now) }
+    ensures adds { OnOk result (CanBeAdded graph.now adds.new) }
+    ensures room { scratch.new ≡ scratch.old }
+{
+    match pair.kind {
+        Kind::Must => Ok(Outcome::Kept),
+        Kind::Prefer => {
+            if pair.first.0 == pair.second.0 {
+                return Ok(Outcome::Same);
+            }
+            if forbids(graph, adds.as_slice(), scratch, pair, steps) {
+                return Ok(Outcome::Reversed);
+            }
+            add(graph, adds, scratch, pair, steps)?;
+            Ok(Outcome::Kept)
+        }
+    }
+}
+
+// Adds the musts of the batch, in list order, up to the first that the order forbids. The index of that one.
+pub(crate) fn add_musts<L: Ledger>(
+    graph: &Graph,
+    adds: &mut Adds,
+    scratch: &mut Scratch,
+    batch: &[Pair],
+    steps: &mut Steps<L>,
+) -> Result<Option<u32>, NoMemory>
+    requires few { length batch.now ≤ 32 }
+    requires fits { length graph.now.slots ≤ scratch.old }
+    requires batch { IsBatchHeld graph.now.vertices batch.now }
+    requires adds { CanBeAdded graph.now adds.old }
+    ensures found { IfOk result (λ found. found ≡ contradicts (order_with graph.now adds.old) batch.now) }
+    ensures order { IfOk result (λ found. found ≡ None → order_with graph.now adds.new ≡ musts_from (order_with graph.now adds.old) batch.now) }
+    ensures adds { OnOk result (CanBeAdded graph.now adds.new) }
+    ensures room { scratch.new ≡ scratch.old }
+{
+    for (i, pair) in batch.iter().enumerate() {
+        if add_must(graph, adds, scratch, pair, steps)? {
+            return Ok(Some(i as u32));
+        }
+    }
+    Ok(None)
+}
+
+// Adds the prefers of the batch, in list order, where the order does not forbid them. What becomes of each pair of
+// the batch.
+pub(crate) fn add_prefers<L: Ledger>(
+    alloc: Global,
+    graph: &Graph,
+    adds: &mut Adds,
+    scratch: &mut Scratch,
+    batch: &[Pair],
+    steps: &mut Steps<L>,
+) -> Result<Outcomes, NoMemory>
+    requires fits { length graph.now.slots ≤ scratch.old }
+    requires batch { IsBatchHeld graph.now.vertices batch.now }
+    requires adds { CanBeAdded graph.now adds.old }
+    ensures outcomes { IfOk result (λ outcomes. outcomes ≡ outcomes_from (order_with graph.now adds.old) batch.now) }
+    ensures order { OnOk result (order_with graph.now adds.new ≡ prefers_from (order_with graph.now adds.old) batch.now) }
+    ensures adds { OnOk result (CanBeAdded graph.now adds.new) }
+    ensures room { scratch.new ≡ scratch.old }
+{
+    let mut outcomes = Outcomes::new(alloc);
+    for pair in batch {
+        let outcome = add_prefer(graph, adds, scratch, pair, steps)?;
+        outcomes.push(outcome)?;
+    }
+    Ok(outcomes)
+}

@@ -1,0 +1,75 @@
+//! How many entries the next server is known to have, and the message with those that it may lack.
+
+ghost use Rattle.std.specs.Prelude.{◌≡◌, max, min, None, IfOk};
+ghost use Rattle.chain_link.specs.Window.{window_of};
+
+use cmd_log::Log;
+use kr_order::{Message, NoMemory, ServerId};
+
+// So many entries are sent in one message at the most.
+const MOST_ENTRIES: usize = 16;
+
+/// The link to the next server, if there is one.
+#[derive(Clone, Copy, Debug, PartialEq, Eq)]
+pub struct Link {
+    next: Option<ServerId>,
+    fed: u64,
+}
+
+impl Link {
+    /// The link to no server.
+    pub fn new() -> Self
+        ensures next { result.next ≡ None }
+        ensures fed { result.fed ≡ 0 }
+    {
+        Link { next: None, fed: 0 }
+    }
+
+    /// The next server is this one from now on. One that is not the one before is not known to have any entry.
+    pub fn aim(&mut self, next: Option<ServerId>)
+        ensures next { self.new.next ≡ next }
+        ensures same { self.old.next ≡ next → self.new.fed ≡ self.old.fed }
+        ensures other { ¬ (self.old.next ≡ next) → self.new.fed ≡ 0 }
+    {
+        if self.next != next {
+            self.fed = 0;
+        }
+        self.next = next;
+    }
+
+    /// The next server; `None` where there is none.
+    pub fn next(&self) -> Option<ServerId>
+        ensures { result ≡ self.now.next }
+    {
+        self.next
+    }
+
+    /// How many entries the next server is known to have.
+    pub fn fed(&self) -> u64
+        ensures { result ≡ self.now.fed }
+    {
+        self.fed
+    }
+
+    /// The message with the entries that the next server is not known to have, the first 16 of them; `None` exactly
+    /// where there is no next server, or the log has none of these.
+    pub fn window(&self, log: &Log) -> Result<Option<Message>, NoMemory>
+        ensures { IfOk result (λ message. message ≡ window_of self.now.next self.now.fed log.now) }
+    {
+        if self.next.is_none() || log.len() <= self.fed {
+            return Ok(None);
+        }
+        let first = self.fed + 1;
+        let entries = log.suffix(first, MOST_ENTRIES)?;
+        Ok(Some(Message::Append { first, entries }))
+    }
+
+    /// The next server tells that its log has so many entries, and the own log has so many. What it is known to
+    /// have never becomes less.
+    pub fn heard(&mut self, len: u64, own: u64)
+        ensures next { self.new.next ≡ self.old.next }
+        ensures fed { self.new.fed ≡ max self.old.fed (min len own) }
+    {
+        self.fed = self.fed.max(len.min(own));
+    }
+}

@@ -1,0 +1,79 @@
+//! Acknowledgements of the next server.
+
+ghost use Rattle.std.specs.Prelude.{◌≡◌, ◌^◌, ◌≤◌, length, min, false, IfOk, OnOk, OnErr};
+ghost use Rattle.kr_protocol.specs.Server.{ack, sends, feeds, acknowledges, after_ack};
+ghost use Rattle.chain_server.specs.Calls.{Does, AddsTo};
+
+use super::{Server, is_server};
+use crate::Effects;
+use crate::packets::{ack, window};
+use kr_order::{NoMemory, Packets, ServerId};
+use order_state::Board;
+
+impl<B: Board> Server<B> {
+    // The server before learns how many entries are acknowledged.
+    fn tell_before(&mut self, mut effects: Effects) -> Result<Effects, NoMemory>
+        requires { self.old.failed ≡ false }
+        ensures { AddsTo effects self.old (sends self.old.server (ack self.old.server)) result self.new }
+    {
+        self.failed = true;
+        let before = self.view.prev_of(self.id);
+        let done = self.board.count();
+        let packets = ack(self.alloc, self.id, before, done, self.log.len())?;
+        effects.packets.append(packets)?;
+        self.failed = false;
+        Ok(effects)
+    }
+
+    // So many entries are acknowledged to the next server.
+    fn acknowledge(&mut self, upto: u64) -> Result<Effects, NoMemory>
+        requires whole { self.old.failed ≡ false }
+        requires high { upto ≤ length self.old.server.log }
+        requires few { upto ≤ 2 ^ 58 }
+        ensures { Does self.old (acknowledges self.old.server upto) result self.new }
+    {
+        if upto <= self.board.count() {
+            return Ok(Effects::none(self.alloc));
+        }
+        let effects = self.advance(upto)?;
+        self.tell_before(effects)
+    }
+
+    // The next server has so many entries, and is sent more where this is news.
+    fn feed(&mut self, len: u64, mut effects: Effects) -> Result<Effects, NoMemory>
+        requires { self.old.failed ≡ false }
+        ensures { AddsTo effects self.old (feeds self.old.server (min len (length self.old.server.log))) result self.new }
+    {
+        self.failed = true;
+        let own = self.log.len();
+        let upto = len.min(own);
+        let is_news = self.link.fed() < upto && upto < own;
+        self.link.heard(len, own);
+        let packets = if is_news {
+            window(self.alloc, self.id, &self.link, &self.log)?
+        } else {
+            Packets::new(self.alloc)
+        };
+        effects.packets.append(packets)?;
+        self.failed = false;
+        Ok(effects)
+    }
+
+    // The next server tells how many entries are acknowledged to it, and how many its log has.
+    pub(super) fn take_ack(
+        &mut self,
+        from: ServerId,
+        done: u64,
+        len: u64,
+    ) -> Result<Effects, NoMemory>
+        requires { self.old.failed ≡ false }
+        ensures { Does self.old (after_ack self.old.server from done len) result self.new }
+    {
+        if !is_server(self.link.next(), from) {
+            return Ok(Effects::none(self.alloc));
+        }
+        let upto = done.min(self.log.len());
+        let effects = self.acknowledge(upto)?;
+        self.feed(len, effects)
+    }
+}

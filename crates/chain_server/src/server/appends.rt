@@ -1,0 +1,98 @@
+//! Entries that the server before passes on.
+
+ghost use Rattle.std.specs.Prelude.{◌≡◌, ◌++◌, Some, length, true, false, IfOk, OnOk, OnErr};
+ghost use Rattle.kr_protocol.specs.Server.{acknowledged, appended, missing, ack_to, sends, advances_at_tail, after_append};
+ghost use Rattle.chain_server.specs.Calls.{Does, AddsTo};
+ghost use Rattle.chain_server.specs.Parts.{passed_on, passed_on_by};
+
+use super::{Server, is_server};
+use crate::Effects;
+use crate::packets::{ack, window};
+use chain_link::{Link, receive};
+use cmd_log::Log;
+use kr_order::{Entries, NoMemory, Packets, ServerId};
+use order_state::Board;
+use std::alloc::Global;
+
+// What is passed on once so many entries were taken: nothing where none were.
+fn passed_on(
+    alloc: Global,
+    id: ServerId,
+    link: &Link,
+    log: &Log,
+    taken: u64,
+) -> Result<Packets, NoMemory>
+    ensures { IfOk result (λ packets. packets ≡ passed_on id link.now.next link.now.fed log.now taken) }
+{
+    if taken == 0 {
+        Ok(Packets::new(alloc))
+    } else {
+        window(alloc, id, link, log)
+    }
+}
+
+impl<B: Board> Server<B> {
+    // Those entries that the log lacks go to its end. How many these were.
+    fn grow(&mut self, first: u64, entries: &Entries) -> Result<u64, NoMemory>
+        requires { self.old.failed ≡ false }
+        ensures grown { OnOk result (self.new ≡ record { server = appended self.old.server (missing self.old.server.log first entries.now); failed = false }) }
+        ensures same { OnOk result (acknowledged self.new.server ≡ acknowledged self.old.server) }
+        ensures count { IfOk result (λ count. count ≡ length (missing self.old.server.log first entries.now)) }
+        ensures err { OnErr result (self.new.failed ≡ true) }
+    {
+        self.failed = true;
+        let taken = receive(&mut self.log, first, entries)?;
+        self.failed = false;
+        Ok(taken)
+    }
+
+    // What is in the log is acknowledged where the server is the tail.
+    fn advance_at_tail(&mut self) -> Result<Effects, NoMemory>
+        requires { self.old.failed ≡ false }
+        ensures { Does self.old (advances_at_tail self.old.server) result self.new }
+    {
+        if !self.view.is_tail(self.id) {
+            return Ok(Effects::none(self.alloc));
+        }
+        let len = self.log.len();
+        self.advance(len)
+    }
+
+    // What is sent when so many entries were taken from the server before.
+    fn pass_on(
+        &mut self,
+        from: ServerId,
+        taken: u64,
+        mut effects: Effects,
+    ) -> Result<Effects, NoMemory>
+        requires { self.old.failed ≡ false }
+        ensures { AddsTo effects self.old (sends self.old.server (ack_to self.old.server (Some from) ++ passed_on_by self.old.server taken)) result self.new }
+    {
+        self.failed = true;
+        let done = self.board.count();
+        let mut more = ack(self.alloc, self.id, Some(from), done, self.log.len())?;
+        let passed = passed_on(self.alloc, self.id, &self.link, &self.log, taken)?;
+        more.append(passed)?;
+        effects.packets.append(more)?;
+        self.failed = false;
+        Ok(effects)
+    }
+
+    // The server before passes entries on.
+    pub(super) fn take_append(
+        &mut self,
+        from: ServerId,
+        first: u64,
+        entries: &Entries,
+    ) -> Result<Effects, NoMemory>
+        requires { self.old.failed ≡ false }
+        ensures { Does self.old (after_append self.old.server from first entries.now) result self.new }
+    {
+        if !is_server(self.view.prev_of(self.id), from) {
+            return Ok(Effects::none(self.alloc));
+        }
+        let taken = self.grow(first, entries)?;
+        let effects = self.advance_at_tail()?;
+        self.pass_on(from, taken, effects)
+    }
+}

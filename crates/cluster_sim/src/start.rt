@@ -1,0 +1,54 @@
+//! The nodes that a cluster begins with.
+
+ghost use Rattle.std.specs.Prelude.{◌≡◌, map, false, IfOk};
+ghost use Rattle.kr_order.specs.View.{numbers_to, first_view};
+ghost use Rattle.kr_protocol.specs.Server.{founder};
+ghost use Rattle.kr_protocol.specs.Client.{new_client};
+
+use chain_server::Server;
+use client_session::Client;
+use kr_order::{ClientId, Copied, NoMemory, ServerId, Servers, View};
+use order_state::PlainBoard;
+use std::alloc::Global;
+
+/// The view of so many servers, in the order of their numbers.
+pub fn first_view(alloc: Global, servers: u32) -> Result<View, NoMemory>
+    ensures { IfOk result (λ view. view ≡ first_view servers) }
+{
+    let mut chain = Servers::new(alloc);
+    for i in 0..servers {
+        chain.push(ServerId(i + 1))?;
+    }
+    Ok(View {
+        number: 1,
+        chain,
+        joiner: None,
+    })
+}
+
+/// So many servers, each with nothing in its log, which have adopted the view.
+pub fn founders(
+    alloc: Global,
+    view: &View,
+    servers: u32,
+) -> Result<Vec<Server<PlainBoard>>, NoMemory>
+    ensures { IfOk result (λ nodes. nodes.items ≡ map (λ n. record { server = founder view.now (record { 0 = n }); failed = false }) (numbers_to servers)) }
+{
+    let mut nodes = Vec::new(alloc);
+    for i in 0..servers {
+        let view = view.copy(alloc)?;
+        nodes.push(Server::founder(alloc, ServerId(i + 1), view, PlainBoard::new(alloc)))?;
+    }
+    Ok(nodes)
+}
+
+/// So many clients that have begun nothing.
+pub fn callers(alloc: Global, clients: u32) -> Result<Vec<Client>, NoMemory>
+    ensures { IfOk result (λ nodes. nodes.items ≡ map (λ n. record { client = new_client (record { 0 = n }); failed = false }) (numbers_to clients)) }
+{
+    let mut nodes = Vec::new(alloc);
+    for i in 0..clients {
+        nodes.push(Client::new(alloc, ClientId(i + 1)))?;
+    }
+    Ok(nodes)
+}

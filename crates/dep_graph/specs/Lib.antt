@@ -1,0 +1,2 @@
+pub mod GraphView
+pub mod Links

@@ -1,0 +1,117 @@
+//! Chains of servers: what goes down and comes up a chain, and what is not asked of one yet.
+
+use super::answer;
+use crate::exit::Exit;
+use std::test::Fail;
+
+const NOTHING_HAPPENS: &str = "\
+cluster 3 1
+";
+
+const NO_HISTORY: &str = "\
+history 0
+end
+";
+
+// The acknowledgements come up the chain, a newer one before an older one.
+const DOWN_THE_CHAIN: &str = "\
+cluster 3 1
+create 1
+deliver 1
+deliver 2
+deliver 4
+deliver 6
+deliver 7
+deliver 5
+deliver 3
+";
+
+const ONCE_DOWN: &str = "\
+packet 1 c1 s1 request 1
+packet 2 s1 s2 append 1 1
+packet 3 s2 s1 ack 0 1
+packet 4 s2 s3 append 1 1
+grown 1
+packet 5 s3 c1 reply 1 1
+packet 6 s3 s2 ack 1 1
+packet 7 s2 s1 ack 1 1
+told c1 1 at 1 created 1
+history 1
+1 c1 1 create = created 1
+end
+";
+
+// The entries of packet 10 come twice, and those of packet 4 come again after them.
+const ENTRIES_COME_AGAIN: &str = "\
+cluster 3 1
+create 1
+deliver 1
+deliver 2
+deliver 4
+deliver 5
+create 1
+deliver 7
+deliver 8
+deliver 10
+deliver 10
+deliver 4
+deliver 8
+deliver 11
+";
+
+const TAKEN_ONCE: &str = "\
+packet 1 c1 s1 request 1
+packet 2 s1 s2 append 1 1
+packet 3 s2 s1 ack 0 1
+packet 4 s2 s3 append 1 1
+grown 1
+packet 5 s3 c1 reply 1 1
+packet 6 s3 s2 ack 1 1
+told c1 1 at 1 created 1
+packet 7 c1 s1 request 2
+packet 8 s1 s2 append 1 2
+packet 9 s2 s1 ack 0 2
+packet 10 s2 s3 append 1 2
+grown 2
+packet 11 s3 c1 reply 2 2
+packet 12 s3 s2 ack 2 2
+packet 13 s3 s2 ack 2 2
+packet 14 s3 s2 ack 2 2
+packet 15 s2 s1 ack 0 2
+told c1 2 at 2 created 2
+history 2
+1 c1 1 create = created 1
+2 c1 2 create = created 2
+end
+";
+
+#[test]
+fn a_command_goes_down_the_chain(rt: HostRuntime) -> Result<(), Fail> {
+    for (script, transcript) in [
+        (NOTHING_HAPPENS, NO_HISTORY),
+        (DOWN_THE_CHAIN, ONCE_DOWN),
+        (ENTRIES_COME_AGAIN, TAKEN_ONCE),
+    ] {
+        let got = answer(&rt, rt.alloc(), &["script"], script)?;
+        assert_eq!(rt; got.exit, Exit::Done);
+        assert_eq!(rt; got.written.as_slice(), transcript.as_bytes());
+    }
+    Ok(())
+}
+
+#[test]
+fn a_chain_has_one_to_eight_servers_and_no_queries_yet(rt: HostRuntime) -> Result<(), Fail> {
+    for (script, exit) in [
+        ("cluster 1 1\n", Exit::Done),
+        ("cluster 8 1\n", Exit::Done),
+        ("cluster 9 1\n", Exit::BadLine(1)),
+        ("cluster 0 1\n", Exit::BadLine(1)),
+        ("cluster 2 1\ncreate 1\nquery 1 1 1,1\n", Exit::BadLine(3)),
+        ("cluster 2 1\nwork 1 1\n", Exit::BadLine(2)),
+        ("cluster 1 1\nquery 1 1 1,1\nwork 1 1\n", Exit::Done),
+    ] {
+        let got = answer(&rt, rt.alloc(), &["script"], script)?;
+        assert_eq!(rt; got.exit, exit, "{script}");
+    }
+    Ok(())
+}

@@ -1,0 +1,156 @@
+//! What a server keeps of the entries that it has applied, and what it answers from them.
+
+ghost use Rattle.std.specs.Prelude.{◌≡◌, ◌+◌, ◌^◌, ◌<◌, ◌≤◌, ◌∷◌, ◌++◌, [], List, length, map, IfOk, OnOk, OnErr};
+ghost use Rattle.std.specs.Option.{option_map};
+ghost use Rattle.kr_order.specs.declared.history.Entry.{Entry};
+ghost use Rattle.kr_order.specs.Reply.{reply_to};
+ghost use Rattle.kr_order.specs.Done.{done_of, last_of};
+ghost use Rattle.order_state.specs.Kept.{kept_of};
+ghost use Rattle.order_state.specs.Board.{answers_after, told_after};
+
+use crate::{Kept, State};
+use kr_order::{Answers, ClientId, Copied, Entry, EventId, NoMemory, Query, Reply, Steps, Told};
+use reach::{Asks, Scratch};
+use std::alloc::Global;
+use std::marker::{Brand, Model};
+use std::sync::ledger::{Blank, Ledger};
+use std::thread::Threads;
+
+/// The state of a history, as a server uses it.
+pub trait Board: Drop {
+    /// The history that the board stands for.
+    ghost stands: { Self → List Entry };
+
+    /// Puts a copy of the entry at the end of the history, and gives its reply. After `NoMemory` the history is as
+    /// before.
+    fn apply(&mut self, entry: &Entry) -> Result<Reply, NoMemory>
+        requires { length (stands self.old) < 2 ^ 58 }
+        ensures history { OnOk result (stands self.new ≡ stands self.old ++ entry.now ∷ []) }
+        ensures reply { IfOk result (λ reply. reply ≡ reply_to (stands self.old) entry.now.command) }
+        ensures err { OnErr result (stands self.new ≡ stands self.old) };
+
+    /// The answers to these queries after the history, one after the other, whatever the number of workers.
+    fn all<R: Threads + Sync>(
+        &self,
+        rt: &R,
+        queries: &[Query],
+        workers: u32,
+    ) -> Result<Vec<Told>, NoMemory>
+        ensures { IfOk result (λ told. told.items ≡ map (told_after (stands self.now)) queries.now) };
+
+    /// A copy of what is kept of the client's last entry; `None` where the history has none of the client.
+    fn last(&self, client: ClientId) -> Result<Option<Kept>, NoMemory>
+        ensures { IfOk result (λ last. last ≡ option_map kept_of (last_of client (done_of (stands self.now)))) };
+
+    /// How many entries the history has.
+    fn count(&self) -> u64
+        ensures { result ≡ length (stands self.now) };
+}
+
+/// A board over one state. It answers one query after the other.
+#[derive(Debug, Drop)]
+pub struct PlainBoard {
+    alloc: Global,
+    state: State,
+}
+
+impl Model for PlainBoard {
+    ghost use Rattle.std.specs.Prelude.{List};
+    ghost use Rattle.kr_order.specs.declared.history.Entry.{Entry};
+
+    ghost Value = { List Entry };
+
+    ghost view = { λ board. board.state.history };
+}
+
+impl PlainBoard {
+    /// The board of the empty history. It takes no memory.
+    pub fn new(alloc: Global) -> Self
+        ensures { result ≡ [] }
+    {
+        PlainBoard {
+            alloc,
+            state: State::new(alloc),
+        }
+    }
+}
+
+// The answers to these pairs after the state's history.
+fn answers<L: Ledger>(
+    alloc: Global,
+    state: &State,
+    pairs: &[(EventId, EventId)],
+    scratch: &mut Scratch,
+    steps: &mut Steps<L>,
+) -> Result<Answers, NoMemory>
+    requires { state.now.cells ≤ scratch.old }
+    ensures answers { IfOk result (λ answers. answers ≡ answers_after state.now.history pairs.now) }
+    ensures room { scratch.new ≡ scratch.old }
+{
+    let mut answers = Answers::new(alloc);
+    for pair in pairs {
+        answers.push(state.answer(scratch, pair.0, pair.1, steps))?;
+    }
+    Ok(answers)
+}
+
+// What is told to these queries after the state's history.
+fn told<L: Ledger>(
+    alloc: Global,
+    state: &State,
+    queries: &[Query],
+    blank: Blank,
+) -> Result<Vec<Told>, NoMemory>
+    requires name { blank.name ≡ L.name }
+    requires parts { blank.parts ≡ L.parts }
+    requires some { 0 < blank.parts }
+    ensures { IfOk result (λ told. told.items ≡ map (told_after state.now.history) queries.now) }
+{
+    let mut steps = Steps::<L>::new(blank);
+    let mut scratch = Scratch::new(alloc);
+    state.fit(&mut scratch)?;
+    let mut told = Vec::new(alloc);
+    for query in queries {
+        let answers = answers(
+            alloc,
+            state,
+            query.pairs.as_slice(),
+            &mut scratch,
+            &mut steps,
+        )?;
+        told.push(Told {
+            entry: state.entry(),
+            answers,
+        })?;
+    }
+    Ok(told)
+}
+
+impl Board for PlainBoard {
+    ghost stands = { λ board. board };
+
+    fn apply(&mut self, entry: &Entry) -> Result<Reply, NoMemory> {
+        let prepared = self.state.prepare(entry)?;
+        Ok(self.state.apply(prepared))
+    }
+
+    fn all<R: Threads + Sync>(
+        &self,
+        _rt: &R,
+        queries: &[Query],
+        _workers: u32,
+    ) -> Result<Vec<Told>, NoMemory> {
+        told::<Brand>(self.alloc, &self.state, queries, Blank::new(1))
+    }
+
+    fn last(&self, client: ClientId) -> Result<Option<Kept>, NoMemory> {
+        match self.state.last(client) {
+            Some(kept) => Ok(Some(kept.copy(self.alloc)?)),
+            None => Ok(None),
+        }
+    }
+
+    fn count(&self) -> u64 {
+        self.state.count()
+    }
+}

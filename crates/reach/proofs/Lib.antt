@@ -1,0 +1,5 @@
+pub mod MemberLemmas
+pub mod FoundLemmas
+pub mod CellLemmas
+pub mod WalkLemmas
+pub mod EndLemmas

@@ -1,0 +1,17 @@
+//! Searches for paths through a graph of events, with a bound on their steps.
+//!
+//! A step is an event that is taken up or a pair that is looked at. Contracts see a `Scratch` as a number, its room:
+//! how many cells a graph may have that is searched with it. Only `fit` takes memory, and a search clears nothing.
+#![tactic(auto)]
+
+mod asks;
+mod found;
+mod pairs;
+mod scratch;
+mod search;
+#[cfg(test)]
+mod tests;
+
+pub use asks::Asks;
+pub use scratch::Scratch;
+pub use search::{answer_over, reaches, reaches_with};

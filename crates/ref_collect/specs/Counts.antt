@@ -1,0 +1,17 @@
+-- What contracts see of the references of events.
+use Rattle.std.specs.Prelude.{ℕ, ◌<◌, ◌==◌, if◌then◌else◌, List, [], ◌∷◌}
+use Rattle.std.specs.List.{AllPairs}
+
+-- each event that was born, with its count, the smallest event first; and how many more can be born without memory
+pub record RefsView : Type 0 where
+  pub counts : List (ℕ × ℕ)
+  pub spare : ℕ
+
+-- how many references the event has
+abbrev pub count_of : List (ℕ × ℕ) → ℕ → ℕ
+count_of [] event = 0
+count_of (entry ∷ more) event = if entry.0 == event then entry.1 else count_of more event
+
+-- each event stands once, behind the smaller ones
+abbrev pub AreRising : List (ℕ × ℕ) → Type 0
+AreRising counts = AllPairs (λ x y. x.0 < y.0) counts
