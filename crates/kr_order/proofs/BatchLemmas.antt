@@ -6,24 +6,24 @@ use Rattle.std.proofs.lemmas.Bool.{eqb-true, or_parts}
 use Rattle.kr_order.specs.declared.batch.Pair.{Pair}
 use Rattle.kr_order.specs.declared.batch.Outcome.{Outcome}
 use Rattle.kr_order.specs.declared.batch.Outcome.TheVariants.{Kept, Reversed, Same}
-use Rattle.kr_order.specs.Front.{IsFrontOf}
+use Rattle.kr_order.specs.Prefix.{IsPrefix}
 use Rattle.kr_order.specs.Order.{reach, IsAcyclic}
 use Rattle.kr_order.specs.Batch.{IsTrueOf, outcome_of, outcomes_from, outcomes_of, is_must, forbids, with_pair, with_must, with_prefer, musts_from, prefers_from, contradicts_from, contradicts, pairs_with}
-use Rattle.kr_order.proofs.FrontLemmas.{IsFrontOf-refl, IsFrontOf-trans, IsFrontOf-fold}
-use Rattle.kr_order.proofs.OrderLemmas.{reach_more, reach-add, IsFrontOf-add, IsAcyclic-add}
+use Rattle.kr_order.proofs.PrefixLemmas.{IsPrefix-refl, IsPrefix-trans, IsPrefix-fold}
+use Rattle.kr_order.proofs.OrderLemmas.{reach_more, reach-add, IsPrefix-add, IsAcyclic-add}
 
-pub IsFrontOf-with_must : (order : List (ℕ × ℕ)) (pair : Pair) → IsFrontOf order (with_must order pair)
-IsFrontOf-with_must order pair =
-    elim (is_must pair.kind) as (λ must. IsFrontOf order (cond must (with_pair order pair) order)) [ true ↦ IsFrontOf-add order pair.first.0 pair.second.0 | false ↦ IsFrontOf-refl order ]
+pub IsPrefix-with_must : (order : List (ℕ × ℕ)) (pair : Pair) → IsPrefix order (with_must order pair)
+IsPrefix-with_must order pair =
+    elim (is_must pair.kind) as (λ must. IsPrefix order (cond must (with_pair order pair) order)) [ true ↦ IsPrefix-add order pair.first.0 pair.second.0 | false ↦ IsPrefix-refl order ]
 
-pub IsFrontOf-with_prefer : (order : List (ℕ × ℕ)) (pair : Pair) → IsFrontOf order (with_prefer order pair)
-IsFrontOf-with_prefer order pair =
-    elim (is_must pair.kind || forbids order pair) as (λ out. IsFrontOf order (cond out order (with_pair order pair))) [ true ↦ IsFrontOf-refl order | false ↦ IsFrontOf-add order pair.first.0 pair.second.0 ]
+pub IsPrefix-with_prefer : (order : List (ℕ × ℕ)) (pair : Pair) → IsPrefix order (with_prefer order pair)
+IsPrefix-with_prefer order pair =
+    elim (is_must pair.kind || forbids order pair) as (λ out. IsPrefix order (cond out order (with_pair order pair))) [ true ↦ IsPrefix-refl order | false ↦ IsPrefix-add order pair.first.0 pair.second.0 ]
 
 -- a batch only adds to the order
-pub IsFrontOf-pairs_with : (order : List (ℕ × ℕ)) (batch : List Pair) → IsFrontOf order (pairs_with order batch)
-IsFrontOf-pairs_with order batch =
-    IsFrontOf-trans order (musts_from order batch) (pairs_with order batch) (IsFrontOf-fold with_must IsFrontOf-with_must order batch) (IsFrontOf-fold with_prefer IsFrontOf-with_prefer (musts_from order batch) batch)
+pub IsPrefix-pairs_with : (order : List (ℕ × ℕ)) (batch : List Pair) → IsPrefix order (pairs_with order batch)
+IsPrefix-pairs_with order batch =
+    IsPrefix-trans order (musts_from order batch) (pairs_with order batch) (IsPrefix-fold with_must IsPrefix-with_must order batch) (IsPrefix-fold with_prefer IsPrefix-with_prefer (musts_from order batch) batch)
 
 pub IsAcyclic-with_must : (order : List (ℕ × ℕ)) (pair : Pair) → IsAcyclic order → (is_must pair.kind && forbids order pair) ≡ false → IsAcyclic (with_must order pair)
 IsAcyclic-with_must order pair acyclic = by_kind (is_must pair.kind)
@@ -64,7 +64,7 @@ must_holds : (order : List (ℕ × ℕ)) (pair : Pair) → HoldsIfMust (with_mus
 must_holds order pair must = subst (λ b. reach (cond b (with_pair order pair) order) pair.first.0 pair.second.0 ≡ true) (sym must) (reach-add order pair.first.0 pair.second.0)
 
 -- musts that the order says stay so in a longer one
-musts_stay : (old new : List (ℕ × ℕ)) (batch : List Pair) → IsFrontOf old new → AllByRecursion (HoldsIfMust old) batch → AllByRecursion (HoldsIfMust new) batch
+musts_stay : (old new : List (ℕ × ℕ)) (batch : List Pair) → IsPrefix old new → AllByRecursion (HoldsIfMust old) batch → AllByRecursion (HoldsIfMust new) batch
 musts_stay old new [] front all = all
 musts_stay old new (pair ∷ more) front all =
     (λ must. reach_more old new pair.first.0 pair.second.0 front (all.0 must), musts_stay old new more front all.1)
@@ -73,7 +73,7 @@ musts_stay old new (pair ∷ more) front all =
 musts_hold : (order : List (ℕ × ℕ)) (batch : List Pair) → AllByRecursion (HoldsIfMust (musts_from order batch)) batch
 musts_hold order [] = tt
 musts_hold order (pair ∷ more) =
-    (λ must. reach_more (with_must order pair) (musts_from (with_must order pair) more) pair.first.0 pair.second.0 (IsFrontOf-fold with_must IsFrontOf-with_must (with_must order pair) more) (must_holds order pair must), musts_hold (with_must order pair) more)
+    (λ must. reach_more (with_must order pair) (musts_from (with_must order pair) more) pair.first.0 pair.second.0 (IsPrefix-fold with_must IsPrefix-with_must (with_must order pair) more) (must_holds order pair must), musts_hold (with_must order pair) more)
 
 -- an outcome is true of the order with its pair
 outcome_true : (order : List (ℕ × ℕ)) (pair : Pair) → HoldsIfMust order pair → IsTrueOf (with_prefer order pair) pair (outcome_of order pair)
@@ -86,7 +86,7 @@ outcome_true order pair holds = by_test (is_must pair.kind) (eqb pair.first.0 pa
     by_test false false false _ _ _ = reach-add order pair.first.0 pair.second.0
 
 -- what an outcome says stays so in a longer order
-outcome_stays : (old new : List (ℕ × ℕ)) (pair : Pair) (outcome : Outcome) → IsFrontOf old new → IsTrueOf old pair outcome → IsTrueOf new pair outcome
+outcome_stays : (old new : List (ℕ × ℕ)) (pair : Pair) (outcome : Outcome) → IsPrefix old new → IsTrueOf old pair outcome → IsTrueOf new pair outcome
 outcome_stays old new pair Kept front path = reach_more old new pair.first.0 pair.second.0 front path
 outcome_stays old new pair Reversed front path = reach_more old new pair.second.0 pair.first.0 front path
 outcome_stays old new pair Same front same = same
@@ -95,7 +95,7 @@ outcomes_from-true : (order : List (ℕ × ℕ)) (batch : List Pair) → AllByRe
 outcomes_from-true order [] all = tt
 outcomes_from-true order (pair ∷ more) all =
     let next = with_prefer order pair in
-    (outcome_stays next (prefers_from next more) pair (outcome_of order pair) (IsFrontOf-fold with_prefer IsFrontOf-with_prefer next more) (outcome_true order pair all.0), outcomes_from-true next more (musts_stay order next more (IsFrontOf-with_prefer order pair) all.1))
+    (outcome_stays next (prefers_from next more) pair (outcome_of order pair) (IsPrefix-fold with_prefer IsPrefix-with_prefer next more) (outcome_true order pair all.0), outcomes_from-true next more (musts_stay order next more (IsPrefix-with_prefer order pair) all.1))
 
 -- each outcome of a batch is true of the order with the batch
 pub outcomes_of-true : (order : List (ℕ × ℕ)) (batch : List Pair) → AllZip (IsTrueOf (pairs_with order batch)) batch (outcomes_of order batch)

@@ -1,13 +1,13 @@
 -- The order has only pairs of events that were made.
 use Rattle.std.proofs.Common.{◌≡◌, ℕ, ◌+◌, ◌<◌, Bool, true, false, cond, not, ◌||◌, List, [], ◌∷◌, ◌++◌, refl, sym, ◌∙◌, subst, arith}
-use Rattle.std.specs.Prelude.{fold, ◌↔◌, All, None, Some, is_none}
+use Rattle.std.specs.Prelude.{fold, All, None, Some, is_none}
 use Rattle.std.specs.List.{AllByRecursion, position_from}
 use Rattle.std.proofs.lemmas.Bool.{and_parts, ltb-true, not-false}
 use Rattle.std.proofs.lemmas.List.Elements.{All-from_recursion}
 use Rattle.std.proofs.lemmas.Iterator.Adapters.{position_from-zero}
 use Rattle.kr_order.specs.declared.batch.Pair.{Pair}
 use Rattle.kr_order.specs.declared.history.Command.{Command}
-use Rattle.kr_order.specs.declared.history.Command.TheVariants.{Create, Assign}
+use Rattle.kr_order.specs.declared.history.Command.TheVariants.{Create, Assign, Acquire, Release}
 use Rattle.kr_order.specs.declared.history.Entry.{Entry}
 use Rattle.kr_order.specs.History.{births_of, born_in}
 use Rattle.kr_order.specs.Order.{reach}
@@ -62,7 +62,7 @@ pairs_with-born born order batch all batch_all =
     IsBornOrder-fold born with_prefer (with_prefer-born born) (musts_from order batch) batch (IsBornOrder-fold born with_must (with_must-born born) order batch all batch_all) batch_all
 
 -- where no item passes the test, each fails it
-no_position : {X : Type 0} (test : X → Bool) (i : ℕ) (xs : List X) → position_from test i xs ≡ None → AllByRecursion (λ x. test x ≡ false) xs
+pub no_position : {X : Type 0} (test : X → Bool) (i : ℕ) (xs : List X) → position_from test i xs ≡ None → AllByRecursion (λ x. test x ≡ false) xs
 no_position test i [] none = tt
 no_position test i (x ∷ xs) none = by_test (test x) refl none (no_position test (i + 1) xs)
   where
@@ -70,27 +70,29 @@ no_position test i (x ∷ xs) none = by_test (test x) refl none (no_position tes
     by_test true is none on = cc
     by_test false is none on = (is, on none)
 
--- exactly the events made are live, and the order is of them
-record IsOverBorn (agreed : Agreed) : Type 0 where
-  live : (event : ℕ) → (0 < agreed.count event) ↔ IsUpTo event agreed.born
-  pairs : IsBornOrder agreed.born agreed.pairs
+-- events that are live were made, and the order is of such
+pub record IsOverBorn (agreed : Agreed) : Type 0 where
+  pub live : (event : ℕ) → 0 < agreed.count event → IsUpTo event agreed.born
+  pub pairs : IsBornOrder agreed.born agreed.pairs
 
 live_pair : (agreed : Agreed) (pair : Pair) → IsOverBorn agreed → not (both_live agreed pair.first.0 pair.second.0) ≡ false → IsBorn agreed.born pair
 live_pair agreed pair over known =
     let both = and_parts (is_live agreed pair.first.0) (is_live agreed pair.second.0) (not-false (both_live agreed pair.first.0 pair.second.0) known) in
-    record { first = (over.live pair.first.0).0 (ltb-true 0 (agreed.count pair.first.0) both.0); second = (over.live pair.second.0).0 (ltb-true 0 (agreed.count pair.second.0) both.1) }
+    record { first = over.live pair.first.0 (ltb-true 0 (agreed.count pair.first.0) both.0); second = over.live pair.second.0 (ltb-true 0 (agreed.count pair.second.0) both.1) }
 
 live_pairs : (agreed : Agreed) (batch : List Pair) → IsOverBorn agreed → AllByRecursion (λ pair. not (both_live agreed pair.first.0 pair.second.0) ≡ false) batch → AllByRecursion (IsBorn agreed.born) batch
 live_pairs agreed [] over all = tt
 live_pairs agreed (pair ∷ more) over all = (live_pair agreed pair over all.0, live_pairs agreed more over all.1)
 
-known_batch : (agreed : Agreed) (batch : List Pair) → IsOverBorn agreed → first_unknown agreed batch ≡ None → AllByRecursion (IsBorn agreed.born) batch
+pub known_batch : (agreed : Agreed) (batch : List Pair) → IsOverBorn agreed → first_unknown agreed batch ≡ None → AllByRecursion (IsBorn agreed.born) batch
 known_batch agreed batch over none =
     let test : Pair → Bool = λ pair. not (both_live agreed pair.first.0 pair.second.0) in
     live_pairs agreed batch over (no_position test 0 batch (sym (position_from-zero test batch) ∙ none))
 
 pairs_after-born : (command : Command) (agreed : Agreed) → IsOverBorn agreed → IsBornOrder (births_of command + agreed.born) (pairs_after command agreed)
 pairs_after-born Create agreed over = IsBornOrder-more agreed.born 1 agreed.pairs over.pairs
+pairs_after-born (Acquire event) agreed over = IsBornOrder-more agreed.born 0 agreed.pairs over.pairs
+pairs_after-born (Release event) agreed over = IsBornOrder-more agreed.born 0 agreed.pairs over.pairs
 pairs_after-born (Assign batch) agreed over = IsBornOrder-more agreed.born 0 (pairs_after (Assign batch) agreed) (by_test (accepts agreed batch) refl)
   where
     by_test : (taken : Bool) → accepts agreed batch ≡ taken → IsBornOrder agreed.born (cond taken (pairs_with agreed.pairs batch) agreed.pairs)
@@ -99,8 +101,8 @@ pairs_after-born (Assign batch) agreed over = IsBornOrder-more agreed.born 0 (pa
         pairs_with-born agreed.born agreed.pairs batch over.pairs (known_batch agreed batch over none)
     by_test false is = over.pairs
 
-over_born : (history : List Entry) → IsOverBorn (agreed_of history)
-over_born = agreed_keeps IsOverBorn (record { live = λ event. (λ h. absurd (omega arith), λ u. absurd (omega arith)); pairs = tt }) (λ agreed entry over. record { live = λ event. count_after-live entry.command agreed.born event (agreed.count event) (over.live event); pairs = pairs_after-born entry.command agreed over })
+pub over_born : (history : List Entry) → IsOverBorn (agreed_of history)
+over_born = agreed_keeps IsOverBorn (record { live = λ event some. absurd (omega arith); pairs = tt }) (λ agreed entry over. record { live = λ event. count_after-live entry.command agreed.born event (agreed.count event) (over.live event); pairs = pairs_after-born entry.command agreed over })
 
 -- each pair of the order is of events that the history made
 pub pairs_are_born : (history : List Entry) → All (IsBornPair (born_in history)) (pairs_of history)

@@ -1,22 +1,21 @@
 -- How a history's births, references and done entries grow.
-use Rattle.std.proofs.Common.{eq-eqb, ◌≡◌, ℕ, ◌+◌, ◌<◌, ◌≤◌, Bool, true, false, cond, eqb, leb, ◌&&◌, List, [], ◌∷◌, ◌++◌, length, refl, sym, ap, ◌∙◌, subst, arith, rules, append_assoc}
+use Rattle.std.proofs.Common.{eq-eqb, ◌≡◌, ℕ, ◌+◌, ◌-◌, ◌<◌, ◌≤◌, Bool, true, false, cond, eqb, ltb, ◌&&◌, List, [], ◌∷◌, ◌++◌, length, refl, sym, ap, ◌∙◌, subst, arith, rules, append_assoc}
 use Rattle.kr_order.specs.declared.ids.ClientId.{ClientId}
 use Rattle.kr_order.specs.declared.history.DoneEntry.{DoneEntry}
 use Rattle.std.specs.Prelude.{find, fold, Some, ◌↔◌}
-use Rattle.std.proofs.lemmas.Bool.{and_from, and_parts, le-leb, leb-true, lt-ltb, ltb-true}
-use Rattle.std.proofs.lemmas.Bool.Decides.{nat_tests, same_from_decides}
+use Rattle.std.proofs.lemmas.Bool.{eqb-true, lt-ltb, ltb-true}
 use Rattle.std.proofs.lemmas.List.Sums.{fold-append, sum_by-append, sum_by-cons}
 use Rattle.std.proofs.lemmas.List.{reverse-append}
 use Rattle.kr_order.specs.declared.history.Entry.{Entry}
 use Rattle.kr_order.specs.declared.history.Command.{Command}
-use Rattle.kr_order.specs.declared.history.Command.TheVariants.{Create, Assign}
+use Rattle.kr_order.specs.declared.history.Command.TheVariants.{Create, Assign, Acquire, Release}
 use Rattle.kr_order.specs.History.{births_of, born_in}
 use Rattle.kr_order.specs.declared.history.Reply.{Reply}
-use Rattle.kr_order.specs.declared.history.Reply.TheVariants.{Created, Assigned, Unknown, Contradicts}
+use Rattle.kr_order.specs.declared.history.Reply.TheVariants.{Created, Assigned, Count, Unknown, Contradicts}
 use Rattle.kr_order.specs.Reply.{reply_to}
-use Rattle.kr_order.specs.Laws.{CreatedEventIsNew}
+use Rattle.kr_order.specs.Laws.{LiveEventsAreBorn, CreatedEventIsNew}
 use Rattle.kr_order.specs.Agreed.{Agreed, nothing_agreed, is_live, count_after, after, agreed_of}
-use Rattle.kr_order.specs.Front.{IsFrontOf}
+use Rattle.kr_order.specs.Prefix.{IsPrefix}
 use Rattle.kr_order.specs.References.{count_in, IsLive}
 use Rattle.kr_order.specs.Done.{done_after, done_from, done_of, last_of}
 
@@ -54,34 +53,43 @@ count_in-push history entry event =
 abbrev pub IsUpTo : ℕ → ℕ → Type 0
 IsUpTo event born = (1 ≤ event) × (event ≤ born)
 
--- a command's events come after those born before it
-pub count_after-live : (command : Command) (born event count : ℕ) → (0 < count) ↔ IsUpTo event born → (0 < count_after command born event count) ↔ IsUpTo event (births_of command + born)
-count_after-live Create born event count known = by_test (eqb event (born + 1)) refl
-  where
-    by_test : (test : Bool) → eqb event (born + 1) ≡ test → (0 < cond test 1 count) ↔ IsUpTo event (1 + born)
-    by_test true is = (λ _. grind (arith, nat_tests), λ _. omega arith)
-    by_test false is = (λ h. let u = known.0 h in grind (arith, nat_tests), λ u. known.1 (grind (arith, nat_tests)))
-count_after-live (Assign batch) born event count known = (λ h. let u = known.0 h in (u.0, omega arith), λ u. known.1 (u.0, omega arith))
+-- an acquire or a release leaves an event without references as it is
+acquired-some : (same positive : Bool) (count : ℕ) → ltb 0 count ≡ positive → 0 < cond (same && positive) (count + 1) count → 0 < count
+acquired-some true true count is some = ltb-true 0 count is
+acquired-some true false count is some = some
+acquired-some false positive count is some = some
 
--- the live events are those that were made
-pub live-born : (history : List Entry) (event : ℕ) → IsLive history event ↔ IsUpTo event (born_in history)
-live-born history event =
-    subst (λ born. IsLive history event ↔ IsUpTo event born) (born-agreed history) (agreed_keeps (λ agreed. (0 < agreed.count event) ↔ IsUpTo event agreed.born) none (λ agreed entry known. count_after-live entry.command agreed.born event (agreed.count event) known) history)
+released-some : (same : Bool) (count : ℕ) → 0 < cond same (count - 1) count → 0 < count
+released-some true count some = omega arith
+released-some false count some = some
+
+-- the events that are live after a command are among those that were live, and the one that it makes
+pub count_after-live : (command : Command) (born event count : ℕ) → (0 < count → IsUpTo event born) → 0 < count_after command born event count → IsUpTo event (births_of command + born)
+count_after-live Create born event count known live = by_test (eqb event (born + 1)) refl live
   where
-    none : (0 < 0) ↔ IsUpTo event 0
-    none = (λ h. absurd (omega arith), λ u. absurd (omega arith))
+    by_test : (test : Bool) → eqb event (born + 1) ≡ test → 0 < cond test 1 count → IsUpTo event (1 + born)
+    by_test true is live = let same = eqb-true event (born + 1) is in (omega arith, omega arith)
+    by_test false is live = let up = known live in (up.0, omega arith)
+count_after-live (Assign batch) born event count known live = let up = known live in (up.0, omega arith)
+count_after-live (Acquire target) born event count known live =
+    let up = known (acquired-some (eqb event target.0) (ltb 0 count) count refl live) in (up.0, omega arith)
+count_after-live (Release target) born event count known live =
+    let up = known (released-some (eqb event target.0) count live) in (up.0, omega arith)
+
+-- a live event is one that was made
+pub live-born : LiveEventsAreBorn
+live-born history event =
+    subst (λ born. IsLive history event → IsUpTo event born) (born-agreed history) (agreed_keeps (λ agreed. 0 < agreed.count event → IsUpTo event agreed.born) none (λ agreed entry known. count_after-live entry.command agreed.born event (agreed.count event) known) history)
+  where
+    none : 0 < 0 → IsUpTo event 0
+    none some = absurd (omega arith)
 
 -- the test for a live event
 pub is_live-true : (history : List Entry) (event : ℕ) → (is_live (agreed_of history) event ≡ true) ↔ IsLive history event
 is_live-true history event = (λ is. ltb-true 0 (count_in history event) is, λ live. lt-ltb 0 (count_in history event) live)
 
--- the test is one on the number of events made
-pub is_live-born : (history : List Entry) (event : ℕ) → is_live (agreed_of history) event ≡ (leb 1 event && leb event (born_in history))
-is_live-born history event =
-    same_from_decides {P = IsUpTo event (born_in history)} (is_live (agreed_of history) event) (leb 1 event && leb event (born_in history)) (λ is. (live-born history event).0 ((is_live-true history event).0 is), λ made. (is_live-true history event).1 ((live-born history event).1 made)) (λ is. let both = and_parts (leb 1 event) (leb event (born_in history)) is in (leb-true 1 event both.0, leb-true event (born_in history) both.1), λ made. and_from (leb 1 event) (leb event (born_in history)) (le-leb 1 event made.0) (le-leb event (born_in history) made.1))
-
 -- a longer history has made at least as many events
-pub born_in_grows : (history longer : List Entry) → IsFrontOf history longer → born_in history ≤ born_in longer
+pub born_in_grows : (history longer : List Entry) → IsPrefix history longer → born_in history ≤ born_in longer
 born_in_grows history longer front = omega (arith, ap born_in front.is, born_in-append history front.more)
 
 -- done entries of both parts are those of the whole
@@ -95,8 +103,8 @@ pub done_of-push : (history : List Entry) (entry : Entry) → done_of (history +
 done_of-push history entry = done_from-append [] history (entry ∷ [])
 
 -- the done entries of a history are the first of those of a longer one
-pub IsFrontOf-done_of : (history longer : List Entry) → IsFrontOf history longer → IsFrontOf (done_of history) (done_of longer)
-IsFrontOf-done_of history longer front =
+pub IsPrefix-done_of : (history longer : List Entry) → IsPrefix history longer → IsPrefix (done_of history) (done_of longer)
+IsPrefix-done_of history longer front =
     record { more = done_from history front.more; is = ap done_of front.is ∙ done_from-append [] history front.more }
 
 -- each entry is done once
@@ -107,22 +115,26 @@ length-done_from before (x ∷ xs) = omega (arith, length-done_from (before ++ x
 abbrev created_id : Reply → ℕ
 created_id (Created event) = event.0
 created_id (Assigned outcomes) = 0
+created_id (Count count) = 0
 created_id (Unknown index) = 0
 created_id (Contradicts index) = 0
 
 created-is : (history : List Entry) (command : Command) (event : ℕ) → command ≡ Create → reply_to history command ≡ Created (record { 0 = event }) → event ≡ born_in history + births_of command
 created-is history Create event _ is = sym (ap created_id is)
 created-is history (Assign batch) event create _ = cc
+created-is history (Acquire target) event create _ = cc
+created-is history (Release target) event create _ = cc
 
 -- a create's event is the next one
 pub created-new : CreatedEventIsNew
 created-new history entry event create replied =
     let is = created-is history entry.command event create replied in
     let made : births_of entry.command ≡ 1 = subst (λ c. births_of c ≡ 1) (sym create) refl in
-    let now = born_in-append history (entry ∷ []) in
+    let next : eqb event (born_in history + 1) ≡ true = eq-eqb event (born_in history + 1) (omega arith) in
+    let counted : count_in (history ++ entry ∷ []) event ≡ 1 = count_in-push history entry event ∙ ap (λ c. count_after c (born_in history) event (count_in history event)) create ∙ ap (λ b. cond b 1 (count_in history event)) next in
     record {
-      not_before = λ live. let before = (live-born history event).0 live in absurd (omega arith);
-      after = (live-born (history ++ entry ∷ []) event).1 (omega (arith, now), omega (arith, now));
+      not_before = λ live. let before = live-born history event live in absurd (omega arith);
+      after = omega arith;
     }
 
 -- the last entry of a client, one entry later

@@ -1,7 +1,10 @@
-pub mod FrontLemmas
+pub mod PrefixLemmas
+pub mod PathLemmas
+pub mod RoundLemmas
 pub mod OrderLemmas
 pub mod BatchLemmas
 pub mod HistoryLemmas
 pub mod PairsLemmas
 pub mod ReplyLemmas
 pub mod BornLemmas
+pub mod HeldLemmas

@@ -5,18 +5,18 @@ use Rattle.std.proofs.lemmas.Bool.{and_parts}
 use Rattle.std.proofs.lemmas.List.Sums.{fold-append}
 use Rattle.kr_order.specs.declared.answer.Answer.TheVariants.{Before, After, Same, Concurrent, Unknown}
 use Rattle.kr_order.specs.declared.history.Command.{Command}
-use Rattle.kr_order.specs.declared.history.Command.TheVariants.{Create, Assign}
+use Rattle.kr_order.specs.declared.history.Command.TheVariants.{Create, Assign, Acquire, Release}
 use Rattle.kr_order.specs.declared.history.Entry.{Entry}
-use Rattle.kr_order.specs.Front.{IsFrontOf}
+use Rattle.kr_order.specs.Prefix.{IsPrefix}
 use Rattle.kr_order.specs.Order.{reach, IsAcyclic}
 use Rattle.kr_order.specs.Batch.{contradicts, pairs_with}
 use Rattle.kr_order.specs.Agreed.{Agreed, nothing_agreed, both_live, first_unknown, accepts, pairs_after, after, agreed_of}
 use Rattle.kr_order.specs.Pairs.{pairs_of}
 use Rattle.kr_order.specs.Answer.{answer_to}
 use Rattle.kr_order.specs.Laws.{TheOrderOnlyGrows, TheOrderStaysAcyclic, ABeforeIsNeverWithdrawn}
-use Rattle.kr_order.proofs.FrontLemmas.{IsFrontOf-refl, IsFrontOf-trans}
+use Rattle.kr_order.proofs.PrefixLemmas.{IsPrefix-refl, IsPrefix-trans}
 use Rattle.kr_order.proofs.OrderLemmas.{IsAcyclic-nil, reach_more, never_back}
-use Rattle.kr_order.proofs.BatchLemmas.{IsFrontOf-pairs_with, IsAcyclic-pairs_with}
+use Rattle.kr_order.proofs.BatchLemmas.{IsPrefix-pairs_with, IsAcyclic-pairs_with}
 use Rattle.kr_order.proofs.HistoryLemmas.{agreed_of-push, agreed_keeps}
 
 -- the order after one more entry
@@ -24,25 +24,27 @@ pub pairs_of-push : (history : List Entry) (entry : Entry) → pairs_of (history
 pairs_of-push history entry = ap (λ (agreed : Agreed). agreed.pairs) (agreed_of-push history entry)
 
 -- a command only adds to the order
-pub IsFrontOf-pairs_after : (command : Command) (agreed : Agreed) → IsFrontOf agreed.pairs (pairs_after command agreed)
-IsFrontOf-pairs_after Create agreed = IsFrontOf-refl agreed.pairs
-IsFrontOf-pairs_after (Assign batch) agreed =
-    elim (accepts agreed batch) as (λ taken. IsFrontOf agreed.pairs (cond taken (pairs_with agreed.pairs batch) agreed.pairs)) [ true ↦ IsFrontOf-pairs_with agreed.pairs batch | false ↦ IsFrontOf-refl agreed.pairs ]
+pub IsPrefix-pairs_after : (command : Command) (agreed : Agreed) → IsPrefix agreed.pairs (pairs_after command agreed)
+IsPrefix-pairs_after Create agreed = IsPrefix-refl agreed.pairs
+IsPrefix-pairs_after (Assign batch) agreed =
+    elim (accepts agreed batch) as (λ taken. IsPrefix agreed.pairs (cond taken (pairs_with agreed.pairs batch) agreed.pairs)) [ true ↦ IsPrefix-pairs_with agreed.pairs batch | false ↦ IsPrefix-refl agreed.pairs ]
+IsPrefix-pairs_after (Acquire event) agreed = IsPrefix-refl agreed.pairs
+IsPrefix-pairs_after (Release event) agreed = IsPrefix-refl agreed.pairs
 
-front_from : (agreed : Agreed) (more : List Entry) → IsFrontOf agreed.pairs (fold after agreed more).pairs
-front_from agreed [] = IsFrontOf-refl agreed.pairs
+front_from : (agreed : Agreed) (more : List Entry) → IsPrefix agreed.pairs (fold after agreed more).pairs
+front_from agreed [] = IsPrefix-refl agreed.pairs
 front_from agreed (entry ∷ more) =
-    IsFrontOf-trans agreed.pairs (after agreed entry).pairs (fold after (after agreed entry) more).pairs (IsFrontOf-pairs_after entry.command agreed) (front_from (after agreed entry) more)
+    IsPrefix-trans agreed.pairs (after agreed entry).pairs (fold after (after agreed entry) more).pairs (IsPrefix-pairs_after entry.command agreed) (front_from (after agreed entry) more)
 
 -- the pairs of a history are the first of those of a longer one
-pub IsFrontOf-pairs_of : (history longer : List Entry) → IsFrontOf history longer → IsFrontOf (pairs_of history) (pairs_of longer)
-IsFrontOf-pairs_of history longer front =
+pub IsPrefix-pairs_of : (history longer : List Entry) → IsPrefix history longer → IsPrefix (pairs_of history) (pairs_of longer)
+IsPrefix-pairs_of history longer front =
     let grown : agreed_of longer ≡ fold after (agreed_of history) front.more = ap agreed_of front.is ∙ fold-append after nothing_agreed history front.more in
-    subst (λ (agreed : Agreed). IsFrontOf (pairs_of history) agreed.pairs) (sym grown) (front_from (agreed_of history) front.more)
+    subst (λ (agreed : Agreed). IsPrefix (pairs_of history) agreed.pairs) (sym grown) (front_from (agreed_of history) front.more)
 
 pub order_grows : TheOrderOnlyGrows
 order_grows history longer front =
-    let pairs = IsFrontOf-pairs_of history longer front in
+    let pairs = IsPrefix-pairs_of history longer front in
     record { pairs = pairs; before = λ a b. reach_more (pairs_of history) (pairs_of longer) a b pairs }
 
 pub none_by_test : (found : Option ℕ) → is_none found ≡ true → found ≡ None
@@ -52,6 +54,8 @@ none_by_test (Some i) is = cc
 -- a command closes no cycle
 pub IsAcyclic-pairs_after : (command : Command) (agreed : Agreed) → IsAcyclic agreed.pairs → IsAcyclic (pairs_after command agreed)
 IsAcyclic-pairs_after Create agreed acyclic = acyclic
+IsAcyclic-pairs_after (Acquire event) agreed acyclic = acyclic
+IsAcyclic-pairs_after (Release event) agreed acyclic = acyclic
 IsAcyclic-pairs_after (Assign batch) agreed acyclic = by_test (accepts agreed batch) refl
   where
     by_test : (taken : Bool) → accepts agreed batch ≡ taken → IsAcyclic (cond taken (pairs_with agreed.pairs batch) agreed.pairs)

@@ -5,7 +5,7 @@ use Rattle.std.specs.List.{AllZip}
 use Rattle.kr_order.specs.declared.batch.Pair.{Pair}
 use Rattle.kr_order.specs.declared.batch.Outcome.{Outcome}
 use Rattle.kr_order.specs.declared.history.Command.{Command}
-use Rattle.kr_order.specs.declared.history.Command.TheVariants.{Create, Assign}
+use Rattle.kr_order.specs.declared.history.Command.TheVariants.{Create, Assign, Acquire, Release}
 use Rattle.kr_order.specs.declared.history.Entry.{Entry}
 use Rattle.kr_order.specs.declared.history.Reply.TheVariants.{Assigned, Unknown, Contradicts}
 use Rattle.kr_order.specs.Batch.{IsTrueOf, contradicts, pairs_with, outcomes_of}
@@ -49,6 +49,8 @@ outcomes_true history entry batch outcomes is told =
 
 refused_after : (history : List Entry) (command : Command) (i : ℕ) → (reply_to history command ≡ Unknown i) ⊎ (reply_to history command ≡ Contradicts i) → pairs_after command (agreed_of history) ≡ pairs_of history
 refused_after history Create i told = refl
+refused_after history (Acquire event) i told = refl
+refused_after history (Release event) i told = refl
 refused_after history (Assign batch) i told = ap (λ b. cond b (pairs_with (pairs_of history) batch) (pairs_of history)) (refused_parts (agreed_of history) batch i told)
 
 pub refused_changes_nothing : ARefusedBatchChangesNothing

@@ -1,8 +1,8 @@
 -- What the entries of a history come to, one after the other: its events, their references and their order.
-use Rattle.std.specs.Prelude.{ℕ, ◌+◌, Bool, not, ◌&&◌, ◌==◌, nat_lt, if◌then◌else◌, Option, is_none, List, [], fold, position}
+use Rattle.std.specs.Prelude.{ℕ, ◌+◌, ◌-◌, Bool, not, ◌&&◌, ◌==◌, nat_lt, if◌then◌else◌, Option, is_none, List, [], fold, position}
 use Rattle.kr_order.specs.declared.batch.Pair.{Pair}
 use Rattle.kr_order.specs.declared.history.Command.{Command}
-use Rattle.kr_order.specs.declared.history.Command.TheVariants.{Create, Assign}
+use Rattle.kr_order.specs.declared.history.Command.TheVariants.{Create, Assign, Acquire, Release}
 use Rattle.kr_order.specs.declared.history.Entry.{Entry}
 use Rattle.kr_order.specs.History.{births_of}
 use Rattle.kr_order.specs.Batch.{contradicts, pairs_with}
@@ -33,15 +33,20 @@ first_unknown agreed batch = position (λ pair. not (both_live agreed pair.first
 abbrev pub accepts : Agreed → List Pair → Bool
 accepts agreed batch = is_none (first_unknown agreed batch) && is_none (contradicts agreed.pairs batch)
 
--- an event's references after a command, given those before it and how many events were born before it
+-- an event's references after a command, given those before it and how many events were born before it: a create
+-- makes the next event with one, and an event without a reference gets none again
 abbrev pub count_after : Command → ℕ → ℕ → ℕ → ℕ
 count_after Create born event count = if event == born + 1 then 1 else count
 count_after (Assign batch) born event count = count
+count_after (Acquire target) born event count = if event == target.0 && nat_lt 0 count then count + 1 else count
+count_after (Release target) born event count = if event == target.0 then count - 1 else count
 
 -- the order after a command: a batch that is accepted adds its pairs, and nothing is ever taken out
 abbrev pub pairs_after : Command → Agreed → List (ℕ × ℕ)
 pairs_after Create agreed = agreed.pairs
 pairs_after (Assign batch) agreed = if accepts agreed batch then pairs_with agreed.pairs batch else agreed.pairs
+pairs_after (Acquire event) agreed = agreed.pairs
+pairs_after (Release event) agreed = agreed.pairs
 
 -- what is agreed after one more entry
 abbrev pub after : Agreed → Entry → Agreed

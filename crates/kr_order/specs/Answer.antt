@@ -1,5 +1,6 @@
 -- How one event stands to another after a history.
-use Rattle.std.specs.Prelude.{ℕ, ◌==◌, if◌then◌else◌, List}
+use Rattle.std.specs.Prelude.{ℕ, ◌==◌, if◌then◌else◌, List, map}
+use Rattle.kr_order.specs.declared.ids.EventId.{EventId}
 use Rattle.kr_order.specs.declared.answer.Answer.{Answer}
 use Rattle.kr_order.specs.declared.answer.Answer.TheVariants.{Before, After, Same, Concurrent, Unknown, Unsure}
 use Rattle.kr_order.specs.declared.history.Entry.{Entry}
@@ -21,6 +22,10 @@ answer_from agreed a b = if both_live agreed a b then answer_over agreed.pairs a
 -- the answer to two events after the history
 abbrev pub answer_to : List Entry → ℕ → ℕ → Answer
 answer_to history a b = answer_from (agreed_of history) a b
+
+-- the answers to these pairs after the history
+abbrev pub answers_after : List Entry → List (EventId × EventId) → List Answer
+answers_after history pairs = map (λ pair. answer_to history pair.0.0 pair.1.0) pairs
 
 -- what a server tells that may not have the newest entries: it is sure of what stays so
 abbrev pub partial : Answer → Answer

@@ -2,13 +2,15 @@
 use Rattle.std.specs.Prelude.{ℕ, List, [], ◌∷◌, ◌==◌, max, if◌then◌else◌, sum_by}
 use Rattle.kr_order.specs.declared.ids.ClientId.{ClientId}
 use Rattle.kr_order.specs.declared.history.Command.{Command}
-use Rattle.kr_order.specs.declared.history.Command.TheVariants.{Create, Assign}
+use Rattle.kr_order.specs.declared.history.Command.TheVariants.{Create, Assign, Acquire, Release}
 use Rattle.kr_order.specs.declared.history.Entry.{Entry}
 
 -- how many events the command makes
 abbrev pub births_of : Command → ℕ
 births_of Create = 1
 births_of (Assign batch) = 0
+births_of (Acquire event) = 0
+births_of (Release event) = 0
 
 -- how many events the history has made: event k is the one of its k-th create
 abbrev pub born_in : List Entry → ℕ

@@ -15,14 +15,14 @@ use Rattle.kr_order.specs.declared.batch.Outcome.TheVariants.{Kept, Reversed, Sa
 use Rattle.kr_order.specs.declared.answer.Answer.{Answer}
 use Rattle.kr_order.specs.declared.answer.Answer.TheVariants as answers
 use Rattle.kr_order.specs.declared.history.Command.{Command}
-use Rattle.kr_order.specs.declared.history.Command.TheVariants.{Create, Assign}
+use Rattle.kr_order.specs.declared.history.Command.TheVariants.{Create, Assign, Acquire, Release}
 use Rattle.kr_order.specs.declared.history.Reply.{Reply}
-use Rattle.kr_order.specs.declared.history.Reply.TheVariants.{Created, Assigned, Unknown, Contradicts}
+use Rattle.kr_order.specs.declared.history.Reply.TheVariants.{Created, Assigned, Count, Unknown, Contradicts}
 use Rattle.kr_order.specs.declared.history.DoneEntry.{DoneEntry}
 use Rattle.kr_order.specs.declared.message.Node.{Node}
 use Rattle.kr_order.specs.declared.message.Node.TheVariants.{Manager, Client, Server}
 use Rattle.kr_order.specs.declared.message.Message.{Message}
-use Rattle.kr_order.specs.declared.message.Message.TheVariants.{Request, Append, Ack, Replied, Ask, Answered}
+use Rattle.kr_order.specs.declared.message.Message.TheVariants.{Request, Append, Ack, NewView, Replied, Ask, Answered, Refer, Joined}
 
 -- a client
 abbrev pub client_text : ClientId → List ℕ
@@ -55,11 +55,15 @@ pair_words pairs = flat_map (λ pair. codes " " ++ pair_word pair) pairs
 abbrev pub command_word : Command → List ℕ
 command_word Create = codes "create"
 command_word (Assign batch) = codes "assign"
+command_word (Acquire event) = codes "acquire"
+command_word (Release event) = codes "release"
 
 -- the words that follow it, each with a space before it
 abbrev pub command_words : Command → List ℕ
 command_words Create = []
 command_words (Assign batch) = pair_words batch
+command_words (Acquire event) = codes " " ++ decimal event.0
+command_words (Release event) = codes " " ++ decimal event.0
 
 -- a command as an entry's line has it, without its client
 abbrev pub command_text : Command → List ℕ
@@ -79,6 +83,7 @@ outcome_words outcomes = flat_map (λ outcome. codes " " ++ outcome_word outcome
 abbrev pub reply_text : Reply → List ℕ
 reply_text (Created event) = codes "created " ++ decimal event.0
 reply_text (Assigned outcomes) = codes "assigned" ++ outcome_words outcomes
+reply_text (Count count) = codes "count " ++ decimal count
 reply_text (Unknown index) = codes "unknown " ++ decimal index
 reply_text (Contradicts index) = codes "contradicts " ++ decimal index
 
@@ -97,22 +102,27 @@ answer_word answers.Unknown = codes "unknown"
 answer_word answers.Unsure = codes "unsure"
 
 -- two events that a query asks about
-abbrev pub asked_word : EventId → EventId → List ℕ
-asked_word a b = decimal a.0 ++ codes "," ++ decimal b.0
+abbrev pub asked_word : EventId × EventId → List ℕ
+asked_word pair = decimal pair.0.0 ++ codes "," ++ decimal pair.1.0
 
+-- who told a client
 abbrev pub teller_text : Teller → List ℕ
 teller_text (teller.Server server) = server_text server
+teller_text teller.Cache = codes "cache"
 
 -- what a part's line says behind its client
 abbrev pub part_text : ToldPart → List ℕ
 part_text part =
-    decimal part.q ++ codes " " ++ asked_word part.a part.b ++ codes " " ++ answer_word part.answer ++ codes " at " ++ decimal part.entry ++ codes " by " ++ teller_text part.by
+    decimal part.q ++ codes " " ++ asked_word (part.a, part.b) ++ codes " " ++ answer_word part.answer ++ codes " at " ++ decimal part.entry ++ codes " by " ++ teller_text part.by
 
 -- what a packet's line says of its message
 abbrev pub message_text : Message → List ℕ
 message_text (Request seq command) = codes "request " ++ decimal seq
 message_text (Append first entries) = codes "append " ++ decimal first ++ codes " " ++ decimal (length entries)
 message_text (Ack done len) = codes "ack " ++ decimal done ++ codes " " ++ decimal len
+message_text (NewView view) = codes "view " ++ decimal view.number
 message_text (Replied seq placed) = codes "reply " ++ decimal seq ++ codes " " ++ decimal placed.place
 message_text (Ask q part pairs) = codes "ask " ++ decimal q ++ codes " " ++ decimal part ++ codes " " ++ decimal (length pairs)
 message_text (Answered q part told) = codes "answer " ++ decimal q ++ codes " " ++ decimal part ++ codes " " ++ decimal told.entry
+message_text (Refer q part view) = codes "refer " ++ decimal q ++ codes " " ++ decimal part ++ codes " " ++ decimal view.number
+message_text (Joined joiner) = codes "joined " ++ decimal joiner.0

@@ -1,7 +1,8 @@
 -- Who is in a chain of servers, and who comes before and after whom.
-use Rattle.std.specs.Prelude.{ℕ, zero, suc, ◌+◌, ◌-◌, Bool, false, ◌&&◌, ◌==◌, if◌then◌else◌, List, [], ◌∷◌, ◌++◌, length, map, position, slice_get, Option, None, Some, is_some, is_none}
+use Rattle.std.specs.Prelude.{ℕ, zero, suc, ◌+◌, ◌-◌, Bool, false, ◌&&◌, ◌==◌, if◌then◌else◌, length, map, position, slice_get, Option, None, Some, is_some, is_none}
 use Rattle.kr_order.specs.declared.ids.ServerId.{ServerId}
 use Rattle.kr_order.specs.declared.view.View.{View}
+use Rattle.kr_order.specs.Numbers.{numbers_to}
 
 -- the index, from 0, of the server in the chain
 abbrev pub index_in : View → ServerId → Option ℕ
@@ -51,11 +52,6 @@ is_tail view id = in_chain view id && is_none (next_of view id)
 -- the server is the head: a member of the chain with nobody before it
 abbrev pub is_head : View → ServerId → Bool
 is_head view id = in_chain view id && is_none (prev_of view id)
-
--- 1, 2, 3 and so on up to a number
-abbrev pub numbers_to : ℕ → List ℕ
-numbers_to zero = []
-numbers_to (suc n) = numbers_to n ++ (n + 1) ∷ []
 
 -- the first view: all servers, in the order of their numbers, and no joiner
 abbrev pub first_view : ℕ → View

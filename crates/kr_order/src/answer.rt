@@ -38,6 +38,8 @@ pub struct Told {
 pub enum Teller {
     /// This server, from the history that it has applied.
     Server(ServerId),
+    /// The client itself, from what it was told before.
+    Cache,
 }
 
 /// What a client is told of one pair of its query.

@@ -77,6 +77,14 @@ impl fmt::Display for Command {
                 let pairs = PairWords(batch.as_slice());
                 write!(f, "assign{pairs}")
             }
+            Command::Acquire(event) => {
+                let number = event.0;
+                write!(f, "acquire {number}")
+            }
+            Command::Release(event) => {
+                let number = event.0;
+                write!(f, "release {number}")
+            }
         }
     }
 }
@@ -121,6 +129,7 @@ impl fmt::Display for Reply {
                 let words = OutcomeWords(outcomes.as_slice());
                 write!(f, "assigned{words}")
             }
+            Reply::Count(count) => write!(f, "count {count}"),
             Reply::Unknown(index) => write!(f, "unknown {index}"),
             Reply::Contradicts(index) => write!(f, "contradicts {index}"),
         }
@@ -166,6 +175,10 @@ impl fmt::Display for Message {
                 write!(f, "append {first} {count}")
             }
             Message::Ack { done, len } => write!(f, "ack {done} {len}"),
+            Message::NewView { view } => {
+                let number = view.number;
+                write!(f, "view {number}")
+            }
             Message::Replied { seq, placed } => {
                 let place = placed.place;
                 write!(f, "reply {seq} {place}")
@@ -178,6 +191,14 @@ impl fmt::Display for Message {
                 let entry = told.entry;
                 write!(f, "answer {q} {part} {entry}")
             }
+            Message::Refer { q, part, view } => {
+                let number = view.number;
+                write!(f, "refer {q} {part} {number}")
+            }
+            Message::Joined { joiner } => {
+                let number = joiner.0;
+                write!(f, "joined {number}")
+            }
         }
     }
 }
@@ -188,6 +209,7 @@ impl fmt::Display for Teller {
     fn fmt<W: fmt::Write>(&self, f: &mut fmt::Formatter<W>) -> fmt::Result {
         match self {
             Teller::Server(server) => write!(f, "{server}"),
+            Teller::Cache => write!(f, "cache"),
         }
     }
 }

@@ -11,6 +11,10 @@ pub enum Command {
     /// Assigns the pairs of a batch to the order. Where one of them names an event that is not live, or a must
     /// contradicts the order, nothing is changed.
     Assign(Batch),
+    /// One reference more to an event that is live.
+    Acquire(EventId),
+    /// One reference less to an event that is live; at none it is dead for good.
+    Release(EventId),
 }
 
 /// One client's command in a history.
@@ -29,7 +33,10 @@ pub enum Reply {
     Created(EventId),
     /// What became of each pair, in the order of the batch.
     Assigned(Outcomes),
-    /// The index, from 0, of the first pair that names an event that is not live. Nothing was changed.
+    /// How many references the event has now.
+    Count(u64),
+    /// Of a batch, the index from 0 of the first pair that names an event that is not live; of an acquire or a
+    /// release 0, where its event is not live. Nothing was changed.
     Unknown(u32),
     /// The index, from 0 in the whole batch, of the first must that contradicts the order. Nothing was changed.
     Contradicts(u32),
@@ -62,6 +69,8 @@ impl Copied for Command {
         match self {
             Command::Create => Ok(Command::Create),
             Command::Assign(batch) => Ok(Command::Assign(batch.copy()?)),
+            Command::Acquire(event) => Ok(Command::Acquire(*event)),
+            Command::Release(event) => Ok(Command::Release(*event)),
         }
     }
 }
@@ -81,6 +90,7 @@ impl Copied for Reply {
         match self {
             Reply::Created(id) => Ok(Reply::Created(*id)),
             Reply::Assigned(outcomes) => Ok(Reply::Assigned(outcomes.copy()?)),
+            Reply::Count(count) => Ok(Reply::Count(*count)),
             Reply::Unknown(index) => Ok(Reply::Unknown(*index)),
             Reply::Contradicts(index) => Ok(Reply::Contradicts(*index)),
         }

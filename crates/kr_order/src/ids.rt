@@ -33,6 +33,12 @@ impl<T: Drop> From<AllocFailed<T>> for NoMemory {
     }
 }
 
+impl Copied for u8 {
+    fn copy(&self, _alloc: Global) -> Result<Self, NoMemory> {
+        Ok(*self)
+    }
+}
+
 impl Copied for ServerId {
     fn copy(&self, _alloc: Global) -> Result<Self, NoMemory> {
         Ok(*self)

@@ -2,16 +2,22 @@
 
 pub mod rows;
 
-ghost use Rattle.kr_order.specs.Laws.{BornEventsAreLive, CreatedEventIsNew, TheOrderOnlyGrows, TheOrderStaysAcyclic, ABeforeIsNeverWithdrawn, OutcomesAreTrue, ARefusedBatchChangesNothing};
+ghost use Rattle.kr_order.specs.Laws.{LiveEventsAreBorn, CreatedEventIsNew, APathGoesOverAPair, TheOrderOnlyGrows, TheOrderStaysAcyclic, ABeforeIsNeverWithdrawn, OutcomesAreTrue, ARefusedBatchChangesNothing, CollectedEventsAreIdle};
 
-/// While no reference can be released, the live events are those that were made.
-pub fn born_events_are_live()
-    ensures { BornEventsAreLive }
+/// A live event is one that was made.
+pub fn live_events_are_born()
+    ensures { LiveEventsAreBorn }
 {}
 
 /// A create makes an event that was not live before and is live after it.
 pub fn created_event_is_new()
     ensures { CreatedEventIsNew }
+{}
+
+/// An event is before another where a path of pairs leads there, and nowhere else. These two equations say which
+/// events are before which in any order, without the rounds by which they are found.
+pub fn a_path_goes_over_a_pair()
+    ensures { APathGoesOverAPair }
 {}
 
 /// A longer history keeps the pairs of the order, and what is before in it.
@@ -38,4 +44,10 @@ pub fn outcomes_are_true()
 /// A batch that is refused leaves the order as it was, its musts too.
 pub fn a_refused_batch_changes_nothing()
     ensures { ARefusedBatchChangesNothing }
+{}
+
+/// Collected events are idle: what is held has all paths that begin at a live event, and an event that is not held
+/// never is again.
+pub fn collected_events_are_idle()
+    ensures { CollectedEventsAreIdle }
 {}

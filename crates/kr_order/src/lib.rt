@@ -16,7 +16,10 @@ mod ids;
 pub mod laws;
 mod list;
 mod message;
+mod size;
 mod steps;
+#[cfg(test)]
+mod tests;
 mod view;
 
 pub use answer::{Answer, Answers, Asked, Parts, Query, Teller, Told, ToldPart};

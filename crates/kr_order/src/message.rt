@@ -1,6 +1,6 @@
 //! The parties to the protocol, and the packets that they send.
 
-use crate::{Asked, ClientId, Command, Copied, Entries, NoMemory, Placed, ServerId, Told};
+use crate::{Asked, ClientId, Command, Copied, Entries, NoMemory, Placed, ServerId, Told, View};
 use std::alloc::Global;
 
 /// A party to the protocol.
@@ -20,6 +20,8 @@ pub enum Message {
     Append { first: u64, entries: Entries },
     /// A server tells the one before it how many entries are acknowledged to it, and how many its log has.
     Ack { done: u64, len: u64 },
+    /// The manager tells a server of a view.
+    NewView { view: View },
     /// A server tells a client the reply of its command of this sequence number.
     Replied { seq: u64, placed: Placed },
     /// A client asks a server about pairs of events. `q` is the number of its query, from 1; `part` is 1 for
@@ -27,6 +29,10 @@ pub enum Message {
     Ask { q: u64, part: u8, pairs: Asked },
     /// A server tells a client the answers to this part of its query.
     Answered { q: u64, part: u8, told: Told },
+    /// A server tells a client that it does not answer this part of its query, and which view it has adopted.
+    Refer { q: u64, part: u8, view: View },
+    /// The last server tells the manager that the joiner has caught up.
+    Joined { joiner: ServerId },
 }
 
 /// A message with its sender and its addressee.
@@ -52,6 +58,9 @@ impl Copied for Message {
                 done: *done,
                 len: *len,
             }),
+            Message::NewView { view } => Ok(Message::NewView {
+                view: view.copy(alloc)?,
+            }),
             Message::Replied { seq, placed } => Ok(Message::Replied {
                 seq: *seq,
                 placed: placed.copy(alloc)?,
@@ -66,6 +75,12 @@ impl Copied for Message {
                 part: *part,
                 told: told.copy(alloc)?,
             }),
+            Message::Refer { q, part, view } => Ok(Message::Refer {
+                q: *q,
+                part: *part,
+                view: view.copy(alloc)?,
+            }),
+            Message::Joined { joiner } => Ok(Message::Joined { joiner: *joiner }),
         }
     }
 }

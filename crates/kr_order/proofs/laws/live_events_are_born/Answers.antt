@@ -1,5 +1,5 @@
 use Rattle.kr_order.proofs.HistoryLemmas.{live-born}
-use Rattle.kr_order.proofs.laws.born_events_are_live.Goals as goal
+use Rattle.kr_order.proofs.laws.live_events_are_born.Goals as goal
 
 pub returns : goal.returns
 returns c = live-born
