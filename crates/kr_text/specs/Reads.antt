@@ -25,14 +25,13 @@ pub record GaveTooMany (limit : ℕ) (left left' : Option (List ℕ)) : Type 0 w
   pub taken : Consumes left left' bytes
   pub over : length bytes ≡ limit + 1
 
--- some bytes were given before a fault
-pub record GaveBeforeFault (limit : ℕ) (left left' : Option (List ℕ)) (faults faults' : ℕ) : Type 0 where
-  pub given : GaveSome limit left left'
-  pub rose : Rose faults faults'
+-- the count stays where no read failed
+abbrev pub CountsRightly : Result (Vec ℕ Global) ReadStop → ℕ → ℕ → Type 0
+CountsRightly (Err Fault) faults faults' = Rose faults faults'
+CountsRightly answer faults faults' = faults' ≡ faults
 
 -- what reading a whole input of at most `limit` bytes answers
-abbrev pub Reads : ℕ → Result (Vec ℕ Global) ReadStop → Option (List ℕ) → Option (List ℕ) → ℕ → ℕ → Type 0
-Reads limit (Ok bytes) left left' faults faults' = GaveAll limit left left' bytes.items
-Reads limit (Err Fault) left left' faults faults' = GaveBeforeFault limit left left' faults faults'
-Reads limit (Err TooLong) left left' faults faults' = GaveTooMany limit left left'
-Reads limit (Err NoMemory) left left' faults faults' = GaveSome limit left left'
+abbrev pub Reads : ℕ → Result (Vec ℕ Global) ReadStop → Option (List ℕ) → Option (List ℕ) → Type 0
+Reads limit (Ok bytes) left left' = GaveAll limit left left' bytes.items
+Reads limit (Err TooLong) left left' = GaveTooMany limit left left'
+Reads limit (Err other) left left' = GaveSome limit left left'

@@ -1,7 +1,7 @@
 //! Reading a whole input.
 
-ghost use Rattle.std.specs.Prelude.{◌^◌, ◌<◌, ◌≤◌};
-ghost use Rattle.kr_text.specs.Reads.{Reads};
+ghost use Rattle.std.specs.Prelude.{◌^◌, ◌<◌};
+ghost use Rattle.kr_text.specs.Reads.{Reads, CountsRightly};
 
 use crate::{Failed, Source};
 use std::alloc::{AllocError, Global};
@@ -39,14 +39,13 @@ const CHUNK: usize = 4096;
 /// below 2^63.
 ///
 /// It asks for at most 4096 bytes at once and for at most `limit + 1` in all, and takes time in proportion to
-/// what it was given. `TooLong` comes where the source gave a byte past the limit, `Fault` where a read failed,
+/// what it was given. `TooLong` comes exactly where the source gave a byte past the limit, `Fault` where a read failed,
 /// and `NoMemory` where the bytes, at most `limit`, could not be kept. Bytes that were read before an error
 /// are lost.
 pub fn read_all<S: Source>(alloc: Global, source: &mut S, limit: usize) -> Result<Vec<u8>, ReadStop>
     requires { limit < 2 ^ 63 }
-    ensures later { S.faults source.old ≤ S.faults source.new }
-    ensures reads { Reads limit result (S.left source.old) (S.left source.new)
-        (S.faults source.old) (S.faults source.new) }
+    ensures reads { Reads limit result (S.left source.old) (S.left source.new) }
+    ensures faults { CountsRightly result (S.faults source.old) (S.faults source.new) }
 {
     let mut chunk = [0; CHUNK];
     let mut bytes = Vec::new(alloc);

@@ -1,6 +1,6 @@
 //! Writing a whole text.
 
-ghost use Rattle.std.specs.Prelude.{◌≤◌};
+ghost use Rattle.std.specs.Prelude.{◌≡◌, OnOk};
 ghost use Rattle.kr_text.specs.Writes.{Writes};
 
 use crate::{Failed, Sink};
@@ -18,7 +18,7 @@ pub enum WriteStop {
 ///
 /// `Fault` comes where a write failed. The sink has then taken a front of the text and not all of it.
 pub fn write_all<K: Sink>(sink: &mut K, text: &[u8]) -> Result<(), WriteStop>
-    ensures later { K.faults sink.old ≤ K.faults sink.new }
+    ensures calm { OnOk result (K.faults sink.new ≡ K.faults sink.old) }
     ensures writes { Writes text.now result (K.held sink.old) (K.held sink.new)
         (K.faults sink.old) (K.faults sink.new) }
 {

@@ -10,5 +10,5 @@ loop-done-preserved g c =
     record {
       fits = search rules;
       taken = taken;
-      later = search rules;
+      calm = search rules;
     }
