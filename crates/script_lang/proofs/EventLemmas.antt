@@ -1,74 +1,115 @@
 -- Events by their lines: each line is of one event.
-use Rattle.std.proofs.Common.{◌≡◌, ◌≢◌, ℕ, List, [], ◌++◌, get_or, refl, sym, ap, ◌∙◌, arith}
-use Rattle.std.specs.Prelude.{codes}
+use Rattle.std.proofs.Common.{◌≡◌, ◌≢◌, ℕ, ◌+◌, ◌*◌, ◌^◌, ◌<◌, List, [], ◌∷◌, ◌++◌, Bool, true, false, eqb, not, ◌&&◌, get_or, drop, Option, None, Some, refl, sym, ap, ◌∙◌, arith, append_assoc, eq-eqb}
+use Rattle.std.specs.Prelude.{All, codes}
 use Rattle.std.specs.Fmt.{decimal}
+use Rattle.std.proofs.lemmas.Bool.{false≢true}
 use Rattle.std.proofs.lemmas.Fmt.{decimal_injective}
-use Rattle.std.proofs.lemmas.List.{append-nil, append_cancel_left}
-use Rattle.std.proofs.lemmas.List.Elements.{All-nil}
-use Rattle.kr_order.specs.declared.ids.EventId.{EventId}
+use Rattle.std.proofs.lemmas.List.{append-nil}
+use Rattle.std.proofs.lemmas.List.Elements.{All-nil, All-cons}
 use Rattle.kr_order.specs.declared.ids.ClientId.{ClientId}
 use Rattle.kr_order.specs.declared.ids.ServerId.{ServerId}
-use Rattle.kr_order.specs.declared.history.Command.TheVariants.{Create, Assign}
-use Rattle.kr_order.specs.Text.{pair_word, pair_words}
+use Rattle.kr_order.specs.declared.history.Command.TheVariants.{Create, Assign, Acquire, Release}
+use Rattle.kr_order.specs.Text.{pair_word, pair_words, asked_word}
 use Rattle.script_lang.specs.declared.script.Event.{Event}
-use Rattle.script_lang.specs.declared.script.Event.TheVariants.{Call, Query, Work, Deliver}
-use Rattle.script_lang.specs.Line.{HasNoEnd}
-use Rattle.script_lang.specs.Number.{ReadsTwo, two_numbers}
-use Rattle.script_lang.specs.Event.{IsPair, IsAskedPair, IsQuery, IsWork, IsEvent, asked_word, asked_words, event_text}
-use Rattle.script_lang.proofs.LineLemmas.{no_end_by_test, free_append}
-use Rattle.script_lang.proofs.NumberLemmas.{decimal_has_no_end, number_once, two_once, two_have_no_end}
-use Rattle.script_lang.proofs.WordLemmas.{words_begin, words-injective, words_have_no_end}
-use Rattle.script_lang.proofs.PairLemmas.{pair_has_no_end, asked_has_no_end, pairs_once, asked_once}
+use Rattle.script_lang.specs.declared.script.Event.TheVariants.{Call, Query, Retry, Deliver, Lose, Tick, Work, Show}
+use Rattle.script_lang.specs.Line.{HasNoEnd, HasNoSpace}
+use Rattle.script_lang.specs.Number.{IsFromOneTo, BeginsNo}
+use Rattle.script_lang.specs.Event.{IsPair, IsAskedPair, IsEvent, asked_words, event_word, event_words, event_text}
+use Rattle.script_lang.specs.Reading.{ReadsWord, words, one_word, two_words}
+use Rattle.script_lang.proofs.LineLemmas.{cut_once, no_end_by_test, free_append}
+use Rattle.script_lang.proofs.NumberLemmas.{decimal_has_no_end, number_once}
+use Rattle.script_lang.proofs.WordLemmas.{words-injective, words_have_no_end, word_once, front_reads, both_reads, one_word-injective, two_words-injective}
+use Rattle.script_lang.proofs.PairLemmas.{same_event, pair_has_no_end, asked_has_no_end, pairs_once, asked_once}
 
--- a query's line behind its first word is two numbers and the pairs
-pub query_is_two : (client : ClientId) (server : ServerId) (pairs : List (EventId × EventId)) (bytes : List ℕ) → IsQuery client server pairs → bytes ≡ two_numbers client.0 32 server.0 ++ asked_words pairs → ReadsTwo 4294967295 4294967295 bytes client.0 32 server.0 (asked_words pairs)
-query_is_two client server pairs bytes fit is =
-    record {
-      first_fits = fit.client_fits;
-      sign_is_no_digit = λ digit. absurd (omega (arith, digit.0));
-      second_fits = fit.server_fits;
-      whole = is;
-      ends = words_begin asked_word pairs;
-    }
+-- the first word of an event's line has no LF and no space in it
+pub event_word-has_no_end : (event : Event) → HasNoEnd (event_word event)
+event_word-has_no_end (Call client Create) = no_end_by_test (codes "create") refl
+event_word-has_no_end (Call client (Assign batch)) = no_end_by_test (codes "assign") refl
+event_word-has_no_end (Call client (Acquire event)) = no_end_by_test (codes "acquire") refl
+event_word-has_no_end (Call client (Release event)) = no_end_by_test (codes "release") refl
+event_word-has_no_end (Query client server pairs) = no_end_by_test (codes "query") refl
+event_word-has_no_end (Retry client server) = no_end_by_test (codes "retry") refl
+event_word-has_no_end (Deliver k) = no_end_by_test (codes "deliver") refl
+event_word-has_no_end (Lose k) = no_end_by_test (codes "lose") refl
+event_word-has_no_end (Tick who) = no_end_by_test (codes "tick") refl
+event_word-has_no_end (Work server workers) = no_end_by_test (codes "work") refl
+event_word-has_no_end (Show server) = no_end_by_test (codes "show") refl
 
--- that of work is two numbers
-pub work_is_two : (server : ServerId) (workers : ℕ) (bytes : List ℕ) → IsWork server workers → bytes ≡ two_numbers server.0 32 workers → ReadsTwo 4294967295 8 bytes server.0 32 workers []
-work_is_two server workers bytes fit is =
-    record {
-      first_fits = fit.server_fits;
-      sign_is_no_digit = λ digit. absurd (omega (arith, digit.0));
-      second_fits = fit.workers_fit;
-      whole = is ∙ sym (append-nil (two_numbers server.0 32 workers));
-      ends = tt;
-    }
+-- whether no byte is a space
+abbrev spaced_nowhere : List ℕ → Bool
+spaced_nowhere [] = true
+spaced_nowhere (x ∷ xs) = not (eqb x 32) && spaced_nowhere xs
+
+no_space_by_test : (xs : List ℕ) → spaced_nowhere xs ≡ true → HasNoSpace xs
+no_space_by_test [] _ = All-nil (λ b. b ≢ 32)
+no_space_by_test (x ∷ xs) passes = by_first (no_space_by_test xs) (eqb x 32) refl passes
+  where
+    by_first : (spaced_nowhere xs ≡ true → HasNoSpace xs) → (test : Bool) → eqb x 32 ≡ test → (not test && spaced_nowhere xs) ≡ true → HasNoSpace (x ∷ xs)
+    by_first others true is h = absurd (false≢true h)
+    by_first others false is h = All-cons (λ b. b ≢ 32) x xs (λ same. false≢true (sym is ∙ eq-eqb x 32 same)) (others h)
+
+pub event_word-has_no_space : (event : Event) → HasNoSpace (event_word event)
+event_word-has_no_space (Call client Create) = no_space_by_test (codes "create") refl
+event_word-has_no_space (Call client (Assign batch)) = no_space_by_test (codes "assign") refl
+event_word-has_no_space (Call client (Acquire event)) = no_space_by_test (codes "acquire") refl
+event_word-has_no_space (Call client (Release event)) = no_space_by_test (codes "release") refl
+event_word-has_no_space (Query client server pairs) = no_space_by_test (codes "query") refl
+event_word-has_no_space (Retry client server) = no_space_by_test (codes "retry") refl
+event_word-has_no_space (Deliver k) = no_space_by_test (codes "deliver") refl
+event_word-has_no_space (Lose k) = no_space_by_test (codes "lose") refl
+event_word-has_no_space (Tick who) = no_space_by_test (codes "tick") refl
+event_word-has_no_space (Work server workers) = no_space_by_test (codes "work") refl
+event_word-has_no_space (Show server) = no_space_by_test (codes "show") refl
+
+-- what follows it begins with a space
+pub event_words-begin : (event : Event) → BeginsNo (λ b. b ≢ 32) (event_words event)
+event_words-begin (Call client Create) = λ other. other refl
+event_words-begin (Call client (Assign batch)) = λ other. other refl
+event_words-begin (Call client (Acquire event)) = λ other. other refl
+event_words-begin (Call client (Release event)) = λ other. other refl
+event_words-begin (Query client server pairs) = λ other. other refl
+event_words-begin (Retry client server) = λ other. other refl
+event_words-begin (Deliver k) = λ other. other refl
+event_words-begin (Lose k) = λ other. other refl
+event_words-begin (Tick who) = λ other. other refl
+event_words-begin (Work server workers) = λ other. other refl
+event_words-begin (Show server) = λ other. other refl
+
+-- the first and the fourth letter of a first word, which tell it
+abbrev pub word_key : List ℕ → ℕ
+word_key word = get_or word 0 0 + 256 * get_or word 3 0
+
+-- numbers behind spaces have no LF in them
+one_word-has_no_end : (most n : ℕ) → most < 2 ^ 64 → IsFromOneTo most n → HasNoEnd (one_word n)
+one_word-has_no_end most n small fit =
+    free_append (codes " ") (decimal n) (no_end_by_test (codes " ") refl) (decimal_has_no_end n (omega (arith, fit.high)))
+
+two_words-has_no_end : (most most' a b : ℕ) → most < 2 ^ 64 → most' < 2 ^ 64 → IsFromOneTo most a → IsFromOneTo most' b → HasNoEnd (two_words (a, b))
+two_words-has_no_end most most' a b small small' fit fit' =
+    free_append (one_word a ++ codes " ") (decimal b) (free_append (one_word a) (codes " ") (one_word-has_no_end most a small fit) (no_end_by_test (codes " ") refl)) (decimal_has_no_end b (omega (arith, fit'.high)))
+
+event_words-has_no_end : (event : Event) → IsEvent event → HasNoEnd (event_words event)
+event_words-has_no_end (Call client Create) fit =
+    free_append (one_word client.0) [] (one_word-has_no_end 4294967295 client.0 (omega arith) fit.client_fits) (All-nil (λ b. b ≢ 10))
+event_words-has_no_end (Call client (Assign batch)) fit =
+    free_append (one_word client.0) (pair_words batch) (one_word-has_no_end 4294967295 client.0 (omega arith) fit.client_fits) (words_have_no_end pair_word IsPair pair_has_no_end batch fit.command_fits.each)
+event_words-has_no_end (Call client (Acquire event)) fit =
+    free_append (one_word client.0) (one_word event.0) (one_word-has_no_end 4294967295 client.0 (omega arith) fit.client_fits) (one_word-has_no_end 18446744073709551615 event.0 (omega arith) fit.command_fits)
+event_words-has_no_end (Call client (Release event)) fit =
+    free_append (one_word client.0) (one_word event.0) (one_word-has_no_end 4294967295 client.0 (omega arith) fit.client_fits) (one_word-has_no_end 18446744073709551615 event.0 (omega arith) fit.command_fits)
+event_words-has_no_end (Query client server pairs) fit =
+    free_append (two_words (client.0, server.0)) (asked_words pairs) (two_words-has_no_end 4294967295 4294967295 client.0 server.0 (omega arith) (omega arith) fit.client_fits fit.server_fits) (words_have_no_end asked_word IsAskedPair asked_has_no_end pairs fit.pairs_fit.each)
+event_words-has_no_end (Retry client server) fit = two_words-has_no_end 4294967295 4294967295 client.0 server.0 (omega arith) (omega arith) fit.client_fits fit.server_fits
+event_words-has_no_end (Deliver k) fit = one_word-has_no_end 4294967295 k (omega arith) fit
+event_words-has_no_end (Lose k) fit = one_word-has_no_end 4294967295 k (omega arith) fit
+event_words-has_no_end (Tick None) fit = absurd fit
+event_words-has_no_end (Tick (Some server)) fit = one_word-has_no_end 4294967295 server.0 (omega arith) fit
+event_words-has_no_end (Work server workers) fit = two_words-has_no_end 4294967295 8 server.0 workers (omega arith) (omega arith) fit.server_fits fit.workers_fit
+event_words-has_no_end (Show server) fit = one_word-has_no_end 4294967295 server.0 (omega arith) fit
 
 -- no event's text has an LF in it
 pub event_text-has_no_end : (event : Event) → IsEvent event → HasNoEnd (event_text event)
-event_text-has_no_end (Call client Create) fit =
-    free_append (codes "create " ++ decimal client.0) [] (free_append (codes "create ") (decimal client.0) (no_end_by_test (codes "create ") refl) (decimal_has_no_end client.0 (omega (arith, fit.client_fits.high)))) (All-nil (λ b. b ≢ 10))
-event_text-has_no_end (Call client (Assign batch)) fit =
-    free_append (codes "assign " ++ decimal client.0) (pair_words batch) (free_append (codes "assign ") (decimal client.0) (no_end_by_test (codes "assign ") refl) (decimal_has_no_end client.0 (omega (arith, fit.client_fits.high)))) (words_have_no_end pair_word IsPair pair_has_no_end batch fit.command_fits.each)
-event_text-has_no_end (Query client server pairs) fit =
-    free_append (codes "query " ++ decimal client.0 ++ codes " " ++ decimal server.0) (asked_words pairs) (free_append (codes "query ") (two_numbers client.0 32 server.0) (no_end_by_test (codes "query ") refl) (two_have_no_end client.0 32 server.0 (omega (arith, fit.client_fits.high)) (λ is. absurd (omega (arith, is))) (omega (arith, fit.server_fits.high)))) (words_have_no_end asked_word IsAskedPair asked_has_no_end pairs fit.pairs_fit.each)
-event_text-has_no_end (Work server workers) fit =
-    free_append (codes "work ") (two_numbers server.0 32 workers) (no_end_by_test (codes "work ") refl) (two_have_no_end server.0 32 workers (omega (arith, fit.server_fits.high)) (λ is. absurd (omega (arith, is))) (omega (arith, fit.workers_fit.high)))
-event_text-has_no_end (Deliver k) fit =
-    free_append (codes "deliver ") (decimal k) (no_end_by_test (codes "deliver ") refl) (decimal_has_no_end k (omega (arith, fit.high)))
-
--- the first byte of an event's line tells its kind
-abbrev pub kind_byte : Event → ℕ
-kind_byte (Call client Create) = 99
-kind_byte (Call client (Assign batch)) = 97
-kind_byte (Query client server pairs) = 113
-kind_byte (Work server workers) = 119
-kind_byte (Deliver k) = 100
-
-pub text_begins : (event : Event) → get_or (event_text event) 0 0 ≡ kind_byte event
-text_begins (Call client Create) = refl
-text_begins (Call client (Assign batch)) = refl
-text_begins (Query client server pairs) = refl
-text_begins (Work server workers) = refl
-text_begins (Deliver k) = refl
+event_text-has_no_end event fit = free_append (event_word event) (event_words event) (event_word-has_no_end event) (event_words-has_no_end event fit)
 
 same_client : (one other : ClientId) → one.0 ≡ other.0 → one ≡ other
 same_client one other same = ap (λ n. let c : ClientId = record { 0 = n } in c) same
@@ -76,30 +117,42 @@ same_client one other same = ap (λ n. let c : ClientId = record { 0 = n } in c)
 same_server : (one other : ServerId) → one.0 ≡ other.0 → one ≡ other
 same_server one other same = ap (λ n. let s : ServerId = record { 0 = n } in s) same
 
--- an event is known by its text
-pub event_text-injective : (one other : Event) → IsEvent one → IsEvent other → event_text one ≡ event_text other → one ≡ other
-event_text-injective (Call client Create) (Call client' Create) fit fit' same =
-    let firsts = number_once client.0 client'.0 [] [] (omega (arith, fit.client_fits.high)) (omega (arith, fit'.client_fits.high)) tt tt (append_cancel_left (codes "create ") (decimal client.0 ++ []) (decimal client'.0 ++ []) same) in
-    ap (λ c. Call c Create) (same_client client client' firsts.0)
-event_text-injective (Call client (Assign batch)) (Call client' (Assign batch')) fit fit' same =
-    let firsts = number_once client.0 client'.0 (pair_words batch) (pair_words batch') (omega (arith, fit.client_fits.high)) (omega (arith, fit'.client_fits.high)) (words_begin pair_word batch) (words_begin pair_word batch') (append_cancel_left (codes "assign ") (decimal client.0 ++ pair_words batch) (decimal client'.0 ++ pair_words batch') same) in
+-- an event is known by the words of its line
+event-by_words : (one other : Event) → IsEvent one → IsEvent other → event_word one ≡ event_word other → event_words one ≡ event_words other → one ≡ other
+event-by_words (Call client Create) (Call client' Create) fit fit' _ same =
+    ap (λ c. Call c Create) (same_client client client' (one_word-injective 4294967295 client.0 client'.0 (omega arith) fit.client_fits fit'.client_fits (sym (append-nil (one_word client.0)) ∙ same ∙ append-nil (one_word client'.0))))
+event-by_words (Call client (Assign batch)) (Call client' (Assign batch')) fit fit' _ same =
+    let firsts = word_once 4294967295 4294967295 (one_word client.0 ++ pair_words batch) client.0 client'.0 (pair_words batch) (pair_words batch') (omega arith) (omega arith) (front_reads pair_word 4294967295 client.0 batch (one_word client.0 ++ pair_words batch) fit.client_fits refl) (front_reads pair_word 4294967295 client'.0 batch' (one_word client.0 ++ pair_words batch) fit'.client_fits same) in
     ap (λ c. Call c (Assign batch)) (same_client client client' firsts.0) ∙ ap (λ b. Call client' (Assign b)) (words-injective pair_word IsPair pairs_once batch batch' fit.command_fits.each fit'.command_fits.each firsts.1)
-event_text-injective (Query client server pairs) (Query client' server' pairs') fit fit' same =
-    let bytes : List ℕ = two_numbers client.0 32 server.0 ++ asked_words pairs in
-    let two = two_once client.0 32 server.0 (asked_words pairs) client'.0 32 server'.0 (asked_words pairs') 4294967295 4294967295 4294967295 4294967295 bytes (omega arith) (omega arith) (omega arith) (omega arith) (query_is_two client server pairs bytes fit refl) (query_is_two client' server' pairs' bytes fit' (append_cancel_left (codes "query ") bytes (two_numbers client'.0 32 server'.0 ++ asked_words pairs') same)) in
-    ap (λ c. Query c server pairs) (same_client client client' two.first) ∙ ap (λ s. Query client' s pairs) (same_server server server' two.second) ∙ ap (λ ps. Query client' server' ps) (words-injective asked_word IsAskedPair asked_once pairs pairs' fit.pairs_fit.each fit'.pairs_fit.each two.rest_is)
-event_text-injective (Work server workers) (Work server' workers') fit fit' same =
-    let bytes : List ℕ = two_numbers server.0 32 workers in
-    let two = two_once server.0 32 workers [] server'.0 32 workers' [] 4294967295 8 4294967295 8 bytes (omega arith) (omega arith) (omega arith) (omega arith) (work_is_two server workers bytes fit refl) (work_is_two server' workers' bytes fit' (append_cancel_left (codes "work ") bytes (two_numbers server'.0 32 workers') same)) in
-    ap (λ s. Work s workers) (same_server server server' two.first) ∙ ap (λ w. Work server' w) two.second
-event_text-injective (Deliver k) (Deliver k') fit fit' same =
-    ap Deliver (decimal_injective k k' (omega (arith, fit.high)) (omega (arith, fit'.high)) (append_cancel_left (codes "deliver ") (decimal k) (decimal k') same))
-event_text-injective one (Call client' Create) fit fit' same =
-    let firsts : kind_byte one ≡ 99 = sym (text_begins one) ∙ ap (λ t. get_or t 0 0) same in
-    absurd (omega (arith, firsts))
-event_text-injective one (Call client' (Assign batch')) fit fit' same =
-    let firsts : kind_byte one ≡ 97 = sym (text_begins one) ∙ ap (λ t. get_or t 0 0) same in
-    absurd (omega (arith, firsts))
+event-by_words (Call client (Acquire event)) (Call client' (Acquire event')) fit fit' _ same =
+    let both = two_words-injective 4294967295 18446744073709551615 client.0 event.0 client'.0 event'.0 (omega arith) (omega arith) fit.client_fits fit.command_fits fit'.client_fits fit'.command_fits (append_assoc (one_word client.0) (codes " ") (decimal event.0) ∙ same ∙ sym (append_assoc (one_word client'.0) (codes " ") (decimal event'.0))) in
+    ap (λ c. Call c (Acquire event)) (same_client client client' both.0) ∙ ap (λ e. Call client' (Acquire e)) (same_event event event' both.1)
+event-by_words (Call client (Release event)) (Call client' (Release event')) fit fit' _ same =
+    let both = two_words-injective 4294967295 18446744073709551615 client.0 event.0 client'.0 event'.0 (omega arith) (omega arith) fit.client_fits fit.command_fits fit'.client_fits fit'.command_fits (append_assoc (one_word client.0) (codes " ") (decimal event.0) ∙ same ∙ sym (append_assoc (one_word client'.0) (codes " ") (decimal event'.0))) in
+    ap (λ c. Call c (Release event)) (same_client client client' both.0) ∙ ap (λ e. Call client' (Release e)) (same_event event event' both.1)
+event-by_words (Query client server pairs) (Query client' server' pairs') fit fit' _ same =
+    let firsts = word_once 4294967295 4294967295 (two_words (client.0, server.0) ++ asked_words pairs) client.0 client'.0 (one_word server.0 ++ asked_words pairs) (one_word server'.0 ++ asked_words pairs') (omega arith) (omega arith) (both_reads asked_word 4294967295 client.0 server.0 pairs (two_words (client.0, server.0) ++ asked_words pairs) fit.client_fits refl) (both_reads asked_word 4294967295 client'.0 server'.0 pairs' (two_words (client.0, server.0) ++ asked_words pairs) fit'.client_fits same) in
+    let seconds = word_once 4294967295 4294967295 (one_word server.0 ++ asked_words pairs) server.0 server'.0 (asked_words pairs) (asked_words pairs') (omega arith) (omega arith) (front_reads asked_word 4294967295 server.0 pairs (one_word server.0 ++ asked_words pairs) fit.server_fits refl) (front_reads asked_word 4294967295 server'.0 pairs' (one_word server.0 ++ asked_words pairs) fit'.server_fits firsts.1) in
+    ap (λ c. Query c server pairs) (same_client client client' firsts.0) ∙ ap (λ s. Query client' s pairs) (same_server server server' seconds.0) ∙ ap (λ ps. Query client' server' ps) (words-injective asked_word IsAskedPair asked_once pairs pairs' fit.pairs_fit.each fit'.pairs_fit.each seconds.1)
+event-by_words (Retry client server) (Retry client' server') fit fit' _ same =
+    let both = two_words-injective 4294967295 4294967295 client.0 server.0 client'.0 server'.0 (omega arith) (omega arith) fit.client_fits fit.server_fits fit'.client_fits fit'.server_fits same in
+    ap (λ c. Retry c server) (same_client client client' both.0) ∙ ap (λ s. Retry client' s) (same_server server server' both.1)
+event-by_words (Deliver k) (Deliver k') fit fit' _ same = ap Deliver (one_word-injective 4294967295 k k' (omega arith) fit fit' same)
+event-by_words (Lose k) (Lose k') fit fit' _ same = ap Lose (one_word-injective 4294967295 k k' (omega arith) fit fit' same)
+event-by_words (Tick (Some server)) (Tick (Some server')) fit fit' _ same =
+    ap (λ s. Tick (Some s)) (same_server server server' (one_word-injective 4294967295 server.0 server'.0 (omega arith) fit fit' same))
+event-by_words (Tick None) other fit _ _ _ = absurd fit
+event-by_words one (Tick None) _ fit' _ _ = absurd fit'
+event-by_words (Work server workers) (Work server' workers') fit fit' _ same =
+    let both = two_words-injective 4294967295 8 server.0 workers server'.0 workers' (omega arith) (omega arith) fit.server_fits fit.workers_fit fit'.server_fits fit'.workers_fit same in
+    ap (λ s. Work s workers) (same_server server server' both.0) ∙ ap (λ w. Work server' w) both.1
+event-by_words (Show server) (Show server') fit fit' _ same =
+    ap Show (same_server server server' (one_word-injective 4294967295 server.0 server'.0 (omega arith) fit fit' same))
+event-by_words one (Call client' Create) _ _ named _ = absurd (omega (arith, ap word_key named))
+event-by_words one other _ _ named _ = absurd (omega (arith, ap word_key named))
+
+-- and so by its text
+pub event_text-injective : (one other : Event) → IsEvent one → IsEvent other → event_text one ≡ event_text other → one ≡ other
 event_text-injective one other fit fit' same =
-    let firsts : kind_byte one ≡ kind_byte other = sym (text_begins one) ∙ ap (λ t. get_or t 0 0) same ∙ text_begins other in
-    absurd (omega (arith, firsts))
+    let cut = cut_once (λ b. b ≢ 32) (event_word one) (event_words one) (event_word other) (event_words other) (event_word-has_no_space one) (event_word-has_no_space other) (event_words-begin one) (event_words-begin other) same in
+    event-by_words one other fit fit' cut.0 cut.1

@@ -1,98 +1,88 @@
--- Which lines give an event, behind a first word.
-use Rattle.std.proofs.Common.{◌≡◌, ◌≢◌, ℕ, List, [], ◌++◌, length, get_or, sym, ap, ◌∙◌, arith}
+-- Which lines give an event, by their first word.
+use Rattle.std.proofs.Common.{◌≡◌, ◌≢◌, ℕ, ◌≤◌, List, ◌++◌, length, Option, None, Some, sym, ap, ◌∙◌, arith, append_assoc}
 use Rattle.std.specs.Prelude.{codes}
 use Rattle.std.specs.Fmt.{decimal}
-use Rattle.std.proofs.lemmas.List.{append_cancel_left}
 use Rattle.kr_order.specs.declared.ids.EventId.{EventId}
 use Rattle.kr_order.specs.declared.ids.ClientId.{ClientId}
 use Rattle.kr_order.specs.declared.ids.ServerId.{ServerId}
 use Rattle.kr_order.specs.declared.batch.Pair.{Pair}
-use Rattle.kr_order.specs.declared.history.Command.TheVariants.{Create, Assign}
-use Rattle.kr_order.specs.Text.{pair_word, pair_words}
+use Rattle.kr_order.specs.declared.history.Command.TheVariants.{Create, Assign, Acquire, Release}
+use Rattle.kr_order.specs.Text.{pair_word, pair_words, asked_word}
 use Rattle.script_lang.specs.declared.script.Event.{Event}
-use Rattle.script_lang.specs.declared.script.Event.TheVariants.{Call, Query, Work}
-use Rattle.script_lang.specs.Number.{ReadsNumber, ReadsTwo, two_numbers}
-use Rattle.script_lang.specs.Event.{IsNumber, IsPair, IsAskedPair, ArePairs, IsQuery, IsEvent, asked_word, asked_words, event_text}
-use Rattle.script_lang.proofs.NumberLemmas.{SameTwo, number_once, two_once}
-use Rattle.script_lang.proofs.WordLemmas.{words_begin, words-injective}
+use Rattle.script_lang.specs.declared.script.Event.TheVariants.{Call, Query, Retry, Deliver, Lose, Tick, Work, Show}
+use Rattle.script_lang.specs.Line.{IsWordCut}
+use Rattle.script_lang.specs.Number.{IsFromOneTo}
+use Rattle.script_lang.specs.Event.{IsPair, IsAskedPair, ArePairs, IsEvent, asked_words, event_word, event_words, event_text}
+use Rattle.script_lang.specs.Reading.{Spells, ReadsWord, AreFromOneTo, IsEventOf, one_word, two_words}
+use Rattle.script_lang.proofs.LineLemmas.{cut_once}
+use Rattle.script_lang.proofs.WordLemmas.{words-injective, word_once, front_reads, both_reads}
 use Rattle.script_lang.proofs.PairLemmas.{asked_once}
-use Rattle.script_lang.proofs.EventLemmas.{kind_byte, text_begins, query_is_two, work_is_two}
+use Rattle.script_lang.proofs.EventLemmas.{word_key, event_word-has_no_space, event_words-begin}
 
--- which lines behind `assign ` give an event
-pub assign_only : (rest : List ℕ) → ((client : ClientId) (batch : List Pair) → IsNumber client.0 → ArePairs IsPair batch → rest ≢ decimal client.0 ++ pair_words batch) → (event : Event) → IsEvent event → codes "assign " ++ rest ≢ event_text event
-assign_only rest none (Call client (Assign batch)) fit is =
-    none client batch fit.client_fits fit.command_fits (append_cancel_left (codes "assign ") rest (decimal client.0 ++ pair_words batch) is)
-assign_only rest none (Call client Create) fit is =
-    let firsts : 97 ≡ 99 = ap (λ t. get_or t 0 0) is in
-    absurd (omega (arith, firsts))
-assign_only rest none event fit is =
-    let firsts : 97 ≡ kind_byte event = ap (λ t. get_or t 0 0) is ∙ text_begins event in
-    absurd (omega (arith, firsts))
+-- what is read of the words behind the first is read of the line
+pub line_spells : (text word words : List ℕ) (read : Option Event) → IsWordCut text word words → Spells event_words (IsEventOf word) words read → Spells event_text IsEvent text read
+line_spells text word words None cut none = λ event fit is.
+    let same = cut_once (λ b. b ≢ 32) word words (event_word event) (event_words event) cut.word_has_no_space (event_word-has_no_space event) cut.ends (event_words-begin event) (sym cut.whole ∙ is) in
+    none event (record { fit = fit; named = sym same.0 }) same.1
+line_spells text word words (Some event) cut read =
+    (read.0.fit, cut.whole ∙ ap (λ w. w ++ words) (sym read.0.named) ∙ ap (λ ws. event_word event ++ ws) read.1)
 
--- no number is in front
-pub assign_without_number : (rest : List ℕ) → ((n : ℕ) (after : List ℕ) → ReadsNumber 4294967295 rest n after → ⊥) → (event : Event) → IsEvent event → codes "assign " ++ rest ≢ event_text event
-assign_without_number rest none = assign_only rest (λ client batch fit pairs is. none client.0 (pair_words batch) (record { fit = fit; whole = is; ends = words_begin pair_word batch }))
+-- words that are no two numbers give no acquire, and no release, retry or work
+pub no_acquire : (words : List ℕ) → ((pair : ℕ × ℕ) → AreFromOneTo 4294967295 18446744073709551615 pair → words ≢ two_words pair) → (event : Event) → IsEventOf (codes "acquire") event → words ≢ event_words event
+no_acquire words none (Call client (Acquire event)) fit is =
+    none (client.0, event.0) (record { first = fit.fit.client_fits; second = fit.fit.command_fits }) (is ∙ sym (append_assoc (one_word client.0) (codes " ") (decimal event.0)))
+no_acquire words none event fit is = absurd (omega (arith, ap word_key fit.named))
 
--- what follows the number is no batch
-pub assign_without_batch : (rest : List ℕ) (n : ℕ) (after : List ℕ) → ReadsNumber 4294967295 rest n after → ((batch : List Pair) → ArePairs IsPair batch → after ≢ pair_words batch) → (event : Event) → IsEvent event → codes "assign " ++ rest ≢ event_text event
-assign_without_batch rest n after read none = assign_only rest (λ client batch fit pairs is. none batch pairs ((number_once n client.0 after (pair_words batch) (omega (arith, read.fit.high)) (omega (arith, fit.high)) read.ends (words_begin pair_word batch) (sym read.whole ∙ is)).1))
+pub no_release : (words : List ℕ) → ((pair : ℕ × ℕ) → AreFromOneTo 4294967295 18446744073709551615 pair → words ≢ two_words pair) → (event : Event) → IsEventOf (codes "release") event → words ≢ event_words event
+no_release words none (Call client (Release event)) fit is =
+    none (client.0, event.0) (record { first = fit.fit.client_fits; second = fit.fit.command_fits }) (is ∙ sym (append_assoc (one_word client.0) (codes " ") (decimal event.0)))
+no_release words none event fit is = absurd (omega (arith, ap word_key fit.named))
 
--- which lines behind `query ` give an event
-pub query_only : (rest : List ℕ) → ((client : ClientId) (server : ServerId) (pairs : List (EventId × EventId)) → IsQuery client server pairs → ReadsTwo 4294967295 4294967295 rest client.0 32 server.0 (asked_words pairs) → ⊥) → (event : Event) → IsEvent event → codes "query " ++ rest ≢ event_text event
-query_only rest none (Query client server pairs) fit is =
-    none client server pairs fit (query_is_two client server pairs rest fit (append_cancel_left (codes "query ") rest (two_numbers client.0 32 server.0 ++ asked_words pairs) is))
-query_only rest none (Call client Create) fit is =
-    let firsts : 113 ≡ 99 = ap (λ t. get_or t 0 0) is in
-    absurd (omega (arith, firsts))
-query_only rest none (Call client (Assign batch)) fit is =
-    let firsts : 113 ≡ 97 = ap (λ t. get_or t 0 0) is in
-    absurd (omega (arith, firsts))
-query_only rest none event fit is =
-    let firsts : 113 ≡ kind_byte event = ap (λ t. get_or t 0 0) is ∙ text_begins event in
-    absurd (omega (arith, firsts))
+pub no_retry : (words : List ℕ) → ((pair : ℕ × ℕ) → AreFromOneTo 4294967295 4294967295 pair → words ≢ two_words pair) → (event : Event) → IsEventOf (codes "retry") event → words ≢ event_words event
+no_retry words none (Retry client server) fit is =
+    none (client.0, server.0) (record { first = fit.fit.client_fits; second = fit.fit.server_fits }) is
+no_retry words none (Call client Create) fit is = absurd (omega (arith, ap word_key fit.named))
+no_retry words none event fit is = absurd (omega (arith, ap word_key fit.named))
 
--- two readings of what is behind `query `
-same_query : (rest : List ℕ) (a sign b : ℕ) (after : List ℕ) (client : ClientId) (server : ServerId) (pairs : List (EventId × EventId)) → ReadsTwo 4294967295 4294967295 rest a sign b after → ReadsTwo 4294967295 4294967295 rest client.0 32 server.0 (asked_words pairs) → SameTwo a sign b after client.0 32 server.0 (asked_words pairs)
-same_query rest a sign b after client server pairs one other = two_once a sign b after client.0 32 server.0 (asked_words pairs) 4294967295 4294967295 4294967295 4294967295 rest (omega arith) (omega arith) (omega arith) (omega arith) one other
+pub no_work : (words : List ℕ) → ((pair : ℕ × ℕ) → AreFromOneTo 4294967295 8 pair → words ≢ two_words pair) → (event : Event) → IsEventOf (codes "work") event → words ≢ event_words event
+no_work words none (Work server workers) fit is =
+    none (server.0, workers) (record { first = fit.fit.server_fits; second = fit.fit.workers_fit }) is
+no_work words none (Call client Create) fit is = absurd (omega (arith, ap word_key fit.named))
+no_work words none event fit is = absurd (omega (arith, ap word_key fit.named))
 
--- no two numbers are in front
-pub query_without_numbers : (rest : List ℕ) → ((a sign b : ℕ) (after : List ℕ) → ReadsTwo 4294967295 4294967295 rest a sign b after → ⊥) → (event : Event) → IsEvent event → codes "query " ++ rest ≢ event_text event
-query_without_numbers rest none = query_only rest (λ client server pairs fit two. none client.0 32 server.0 (asked_words pairs) two)
+-- which words give an assign: a client's number, and then a batch
+pub no_assign : (words : List ℕ) → ((client : ClientId) (batch : List Pair) → ReadsWord decimal (IsFromOneTo 4294967295) words client.0 (pair_words batch) → ArePairs IsPair batch → ⊥) → (event : Event) → IsEventOf (codes "assign") event → words ≢ event_words event
+no_assign words none (Call client (Assign batch)) fit is =
+    none client batch (front_reads pair_word 4294967295 client.0 batch words fit.fit.client_fits is) fit.fit.command_fits
+no_assign words none event fit is = absurd (omega (arith, ap word_key fit.named))
 
--- no space is between them
-pub query_without_space : (rest : List ℕ) (a sign b : ℕ) (after : List ℕ) → ReadsTwo 4294967295 4294967295 rest a sign b after → sign ≢ 32 → (event : Event) → IsEvent event → codes "query " ++ rest ≢ event_text event
-query_without_space rest a sign b after read other = query_only rest (λ client server pairs fit two. other ((same_query rest a sign b after client server pairs read two).sign_is))
+pub assign_without_number : (words : List ℕ) → ((n : ℕ) (rest : List ℕ) → ReadsWord decimal (IsFromOneTo 4294967295) words n rest → ⊥) → (event : Event) → IsEventOf (codes "assign") event → words ≢ event_words event
+assign_without_number words none = no_assign words (λ client batch read _. none client.0 (pair_words batch) read)
 
--- what follows them is no pairs
-pub query_without_pairs : (rest : List ℕ) (a sign b : ℕ) (after : List ℕ) → ReadsTwo 4294967295 4294967295 rest a sign b after → ((pairs : List (EventId × EventId)) → ArePairs IsAskedPair pairs → after ≢ asked_words pairs) → (event : Event) → IsEvent event → codes "query " ++ rest ≢ event_text event
-query_without_pairs rest a sign b after read none = query_only rest (λ client server pairs fit two. none pairs fit.pairs_fit ((same_query rest a sign b after client server pairs read two).rest_is))
+pub assign_without_batch : (words : List ℕ) (n : ℕ) (rest : List ℕ) → ReadsWord decimal (IsFromOneTo 4294967295) words n rest → ((batch : List Pair) → ArePairs IsPair batch → rest ≢ pair_words batch) → (event : Event) → IsEventOf (codes "assign") event → words ≢ event_words event
+assign_without_batch words n rest read none = no_assign words (λ client batch other fit. none batch fit ((word_once 4294967295 4294967295 words n client.0 rest (pair_words batch) (omega arith) (omega arith) read other).1))
 
--- or is nothing
-pub query_of_nothing : (rest : List ℕ) (a sign b : ℕ) (after : List ℕ) (read_pairs : List (EventId × EventId)) → ReadsTwo 4294967295 4294967295 rest a sign b after → ArePairs IsAskedPair read_pairs → after ≡ asked_words read_pairs → length read_pairs ≡ 0 → (event : Event) → IsEvent event → codes "query " ++ rest ≢ event_text event
-query_of_nothing rest a sign b after read_pairs read fit spelt none = query_only rest (λ client server pairs fit' two.
-    let same : read_pairs ≡ pairs = words-injective asked_word IsAskedPair asked_once read_pairs pairs fit.each fit'.pairs_fit.each (sym spelt ∙ (same_query rest a sign b after client server pairs read two).rest_is) in
-    absurd (omega (arith, ap length same, none, fit'.some)))
+-- which words give a query: a client's number, a server's, and then at least one pair
+pub no_query : (words : List ℕ) → ((client : ClientId) (server : ServerId) (pairs : List (EventId × EventId)) → ReadsWord decimal (IsFromOneTo 4294967295) words client.0 (one_word server.0 ++ asked_words pairs) → ((rest : List ℕ) → rest ≡ one_word server.0 ++ asked_words pairs → ReadsWord decimal (IsFromOneTo 4294967295) rest server.0 (asked_words pairs)) → 1 ≤ length pairs → ArePairs IsAskedPair pairs → ⊥) → (event : Event) → IsEventOf (codes "query") event → words ≢ event_words event
+no_query words none (Query client server pairs) fit is =
+    none client server pairs (both_reads asked_word 4294967295 client.0 server.0 pairs words fit.fit.client_fits is) (λ rest rest_is. front_reads asked_word 4294967295 server.0 pairs rest fit.fit.server_fits rest_is) fit.fit.some fit.fit.pairs_fit
+no_query words none (Call client Create) fit is = absurd (omega (arith, ap word_key fit.named))
+no_query words none event fit is = absurd (omega (arith, ap word_key fit.named))
 
--- which lines behind `work ` give an event
-pub work_only : (rest : List ℕ) → ((server : ServerId) (workers : ℕ) → ReadsTwo 4294967295 8 rest server.0 32 workers [] → ⊥) → (event : Event) → IsEvent event → codes "work " ++ rest ≢ event_text event
-work_only rest none (Work server workers) fit is =
-    none server workers (work_is_two server workers rest fit (append_cancel_left (codes "work ") rest (two_numbers server.0 32 workers) is))
-work_only rest none (Call client Create) fit is =
-    let firsts : 119 ≡ 99 = ap (λ t. get_or t 0 0) is in
-    absurd (omega (arith, firsts))
-work_only rest none (Call client (Assign batch)) fit is =
-    let firsts : 119 ≡ 97 = ap (λ t. get_or t 0 0) is in
-    absurd (omega (arith, firsts))
-work_only rest none event fit is =
-    let firsts : 119 ≡ kind_byte event = ap (λ t. get_or t 0 0) is ∙ text_begins event in
-    absurd (omega (arith, firsts))
+pub query_without_client : (words : List ℕ) → ((n : ℕ) (rest : List ℕ) → ReadsWord decimal (IsFromOneTo 4294967295) words n rest → ⊥) → (event : Event) → IsEventOf (codes "query") event → words ≢ event_words event
+query_without_client words none = no_query words (λ client server pairs read _ _ _. none client.0 (one_word server.0 ++ asked_words pairs) read)
 
--- no two numbers are in front, with at most 8 workers
-pub work_without_numbers : (rest : List ℕ) → ((a sign b : ℕ) (after : List ℕ) → ReadsTwo 4294967295 8 rest a sign b after → ⊥) → (event : Event) → IsEvent event → codes "work " ++ rest ≢ event_text event
-work_without_numbers rest none = work_only rest (λ server workers two. none server.0 32 workers [] two)
+pub query_without_server : (words : List ℕ) (n : ℕ) (rest : List ℕ) → ReadsWord decimal (IsFromOneTo 4294967295) words n rest → ((m : ℕ) (after : List ℕ) → ReadsWord decimal (IsFromOneTo 4294967295) rest m after → ⊥) → (event : Event) → IsEventOf (codes "query") event → words ≢ event_words event
+query_without_server words n rest read none = no_query words (λ client server pairs other behind _ _.
+    none server.0 (asked_words pairs) (behind rest ((word_once 4294967295 4294967295 words n client.0 rest (one_word server.0 ++ asked_words pairs) (omega arith) (omega arith) read other).1)))
 
--- they are, but not alone with a space between them
-pub work_with_other_bytes : (rest : List ℕ) (a sign b : ℕ) (after : List ℕ) → ReadsTwo 4294967295 8 rest a sign b after → (sign ≡ 32 → after ≡ [] → ⊥) → (event : Event) → IsEvent event → codes "work " ++ rest ≢ event_text event
-work_with_other_bytes rest a sign b after read other = work_only rest (λ server workers two.
-    let same = two_once a sign b after server.0 32 workers [] 4294967295 8 4294967295 8 rest (omega arith) (omega arith) (omega arith) (omega arith) read two in
-    other same.sign_is same.rest_is)
+pub query_without_pairs : (words : List ℕ) (n : ℕ) (rest : List ℕ) (m : ℕ) (after : List ℕ) → ReadsWord decimal (IsFromOneTo 4294967295) words n rest → ReadsWord decimal (IsFromOneTo 4294967295) rest m after → ((pairs : List (EventId × EventId)) → 1 ≤ length pairs → ArePairs IsAskedPair pairs → after ≢ asked_words pairs) → (event : Event) → IsEventOf (codes "query") event → words ≢ event_words event
+query_without_pairs words n rest m after read read' none = no_query words (λ client server pairs other behind some fit.
+    let behind_client = (word_once 4294967295 4294967295 words n client.0 rest (one_word server.0 ++ asked_words pairs) (omega arith) (omega arith) read other).1 in
+    none pairs some fit ((word_once 4294967295 4294967295 rest m server.0 after (asked_words pairs) (omega arith) (omega arith) read' (behind rest behind_client)).1))
+
+-- no pairs are spelt as some are
+pub no_pairs_alone : (after : List ℕ) (none : List (EventId × EventId)) → ArePairs IsAskedPair none → after ≡ asked_words none → length none ≡ 0 → (pairs : List (EventId × EventId)) → 1 ≤ length pairs → ArePairs IsAskedPair pairs → after ≢ asked_words pairs
+no_pairs_alone after none fit is empty pairs some fit' other =
+    let same : none ≡ pairs = words-injective asked_word IsAskedPair asked_once none pairs fit.each fit'.each (sym is ∙ other) in
+    absurd (omega (arith, ap length same, empty, some))

@@ -7,3 +7,4 @@ pub mod KindLemmas
 pub mod SizeLemmas
 pub mod ScriptLemmas
 mod Spellings
+pub mod PrintLemmas

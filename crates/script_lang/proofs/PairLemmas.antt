@@ -6,10 +6,10 @@ use Rattle.kr_order.specs.declared.ids.EventId.{EventId}
 use Rattle.kr_order.specs.declared.batch.Kind.{Kind}
 use Rattle.kr_order.specs.declared.batch.Kind.TheVariants.{Must, Prefer}
 use Rattle.kr_order.specs.declared.batch.Pair.{Pair}
-use Rattle.kr_order.specs.Text.{kind_sign, pair_word}
+use Rattle.kr_order.specs.Text.{kind_sign, pair_word, asked_word}
 use Rattle.script_lang.specs.Line.{HasNoEnd}
 use Rattle.script_lang.specs.Number.{IsDigit, BeginsNoDigit, ReadsTwo, two_numbers}
-use Rattle.script_lang.specs.Event.{IsPair, IsAskedPair, asked_word}
+use Rattle.script_lang.specs.Event.{IsPair, IsAskedPair}
 use Rattle.script_lang.specs.Reading.{IsReadOnce, ReadsWord}
 use Rattle.script_lang.proofs.NumberLemmas.{two_once, two_have_no_end}
 
@@ -57,7 +57,7 @@ asked_is_two pair rest bytes fit ends is =
       ends = ends;
     }
 
-same_event : (one other : EventId) → one.0 ≡ other.0 → one ≡ other
+pub same_event : (one other : EventId) → one.0 ≡ other.0 → one ≡ other
 same_event one other same = ap (λ n. let e : EventId = record { 0 = n } in e) same
 
 same_pair : (one other : Pair) → one.first ≡ other.first → one.second ≡ other.second → one.kind ≡ other.kind → one ≡ other

@@ -1,6 +1,6 @@
 -- Bytes have one spelling: at most one script, and one first bad line.
 use Rattle.std.proofs.Common.{◌≡◌, ℕ, inl, inr, List, [], ◌∷◌, ◌++◌, length, refl, sym, ap, ◌∙◌, subst, arith, append_assoc}
-use Rattle.std.specs.Prelude.{All}
+use Rattle.std.specs.Prelude.{All, flat_map}
 use Rattle.std.proofs.lemmas.List.{length-append, append-nil, nil_from_length}
 use Rattle.std.proofs.lemmas.List.Elements.{All-head, All-tail}
 use Rattle.script_lang.specs.declared.script.Event.{Event}
@@ -8,7 +8,7 @@ use Rattle.script_lang.specs.declared.script.Script.{Script}
 use Rattle.script_lang.specs.Line.{line}
 use Rattle.script_lang.specs.Event.{IsEvent, event_text}
 use Rattle.script_lang.specs.Script.{MayStand, first_line, event_lines, Parses, BeginsWithEvent, BeginsWithSize, StopsAt}
-use Rattle.script_lang.specs.Laws.{BadLinesAreInNoScript, TheBadLineIsOne, ASpellingIsOfOneScript}
+use Rattle.script_lang.specs.Laws.{BadLinesAreInNoScript, TheBadLineIsOne, ASpellingIsOfOneScript, ScriptsAreReadAsPrinted}
 use Rattle.script_lang.proofs.SizeLemmas.{SameSize, size_once}
 use Rattle.script_lang.proofs.ScriptLemmas.{IsRead, event_line-once, no_bytes}
 
@@ -102,3 +102,12 @@ spelt_once bytes one other parses parses' =
     let back = reads_on bytes other.servers other.clients other.events [] one.servers one.clients one.events [] read' read (no_bytes other.servers) in
     let none : on.more ≡ [] = nil_from_length on.more (omega (arith, ap length on.events_are, length-append other.events on.more, ap length back.events_are, length-append one.events back.more)) in
     same_script one.servers one.clients other.servers other.clients one.events other.events same.servers_are same.clients_are (on.events_are ∙ ap (λ m. other.events ++ m) none ∙ append-nil other.events)
+
+lines_one_by_one : (events : List Event) → event_lines events ≡ flat_map (λ event. line (event_text event)) events
+lines_one_by_one [] = refl
+lines_one_by_one (event ∷ events) = ap (λ lines. line (event_text event) ++ lines) (lines_one_by_one events)
+
+pub read_as_printed : ScriptsAreReadAsPrinted
+read_as_printed bytes script =
+    let printed = ap (λ lines. first_line script.servers script.clients ++ lines) (lines_one_by_one script.events) in
+    (λ parses. (parses.fit, sym (parses.spelt ∙ printed)), λ is. record { fit = is.0; spelt = sym (printed ∙ is.1) })

@@ -1,12 +1,15 @@
 -- Words behind spaces are read in one way.
-use Rattle.std.proofs.Common.{◌≡◌, ◌≢◌, ℕ, ◌≤◌, List, [], ◌∷◌, ◌++◌, length, drop, refl, sym, ap, ◌∙◌, arith, append_assoc}
+use Rattle.std.proofs.Common.{◌≡◌, ◌≢◌, ℕ, ◌^◌, ◌<◌, ◌≤◌, List, [], ◌∷◌, ◌++◌, length, drop, refl, sym, ap, ◌∙◌, arith, append_assoc}
 use Rattle.std.specs.Prelude.{All, codes}
+use Rattle.std.specs.Fmt.{decimal}
+use Rattle.std.proofs.lemmas.Fmt.{decimal_injective}
 use Rattle.std.proofs.lemmas.List.{append-nil, length-append, length_push, flat_map_more}
 use Rattle.std.proofs.lemmas.List.Elements.{All-append, All-head, All-tail, All-nil, All-cons, All-push}
 use Rattle.script_lang.specs.Line.{HasNoEnd}
-use Rattle.script_lang.specs.Number.{BeginsNoDigit}
+use Rattle.script_lang.specs.Number.{IsFromOneTo, BeginsNoDigit}
 use Rattle.script_lang.specs.Event.{ArePairs}
-use Rattle.script_lang.specs.Reading.{IsReadOnce, ReadsWord, words}
+use Rattle.script_lang.specs.Reading.{AreFromOneTo, IsReadOnce, ReadsWord, one_word, two_words, words}
+use Rattle.script_lang.proofs.NumberLemmas.{number_once}
 
 words_end : {item : Type 0} (word : item → List ℕ) (items : List item) (rest : List ℕ) → BeginsNoDigit rest → BeginsNoDigit (words word items ++ rest)
 words_end word [] rest ends = ends
@@ -91,3 +94,43 @@ pub words_have_no_end : {item : Type 0} (word : item → List ℕ) (Fits : item 
 words_have_no_end word Fits free [] _ = All-nil (λ b. b ≢ 10)
 words_have_no_end word Fits free (x ∷ items) fit =
     All-append (λ b. b ≢ 10) (codes " " ++ word x) (words word items) (All-cons (λ b. b ≢ 10) 32 (word x) (λ is. absurd (omega arith)) (free x (All-head Fits x items fit))) (words_have_no_end word Fits free items (All-tail Fits x items fit))
+
+-- a number behind a space is read in one way
+pub word_once : (most most' : ℕ) (bytes : List ℕ) (m n : ℕ) (xs ys : List ℕ) → most < 2 ^ 64 → most' < 2 ^ 64 → ReadsWord decimal (IsFromOneTo most) bytes m xs → ReadsWord decimal (IsFromOneTo most') bytes n ys → (m ≡ n) × (xs ≡ ys)
+word_once most most' bytes m n xs ys small small' one other = number_once m n xs ys (omega (arith, one.fit.high)) (omega (arith, other.fit.high)) one.ends other.ends (ap (drop 1) (sym one.whole ∙ other.whole))
+
+-- one number alone behind a space
+pub one_reads : (most n : ℕ) (bytes : List ℕ) → IsFromOneTo most n → bytes ≡ one_word n → ReadsWord decimal (IsFromOneTo most) bytes n []
+one_reads most n bytes fit is = record { fit = fit; whole = is ∙ sym (append-nil (one_word n)); ends = tt }
+
+-- the first of two numbers
+pub first_reads : (most a b : ℕ) (bytes : List ℕ) → IsFromOneTo most a → bytes ≡ two_words (a, b) → ReadsWord decimal (IsFromOneTo most) bytes a (one_word b)
+first_reads most a b bytes fit is =
+    record { fit = fit; whole = is ∙ append_assoc (one_word a) (codes " ") (decimal b); ends = λ digit. absurd (omega (arith, digit.0)) }
+
+-- a number with words behind it
+pub front_reads : {item : Type 0} (word : item → List ℕ) (most n : ℕ) (items : List item) (bytes : List ℕ) → IsFromOneTo most n → bytes ≡ one_word n ++ words word items → ReadsWord decimal (IsFromOneTo most) bytes n (words word items)
+front_reads word most n items bytes fit is = record { fit = fit; whole = is; ends = words_begin word items }
+
+-- the first of two numbers with words behind them
+pub both_reads : {item : Type 0} (word : item → List ℕ) (most a b : ℕ) (items : List item) (bytes : List ℕ) → IsFromOneTo most a → bytes ≡ two_words (a, b) ++ words word items → ReadsWord decimal (IsFromOneTo most) bytes a (one_word b ++ words word items)
+both_reads word most a b items bytes fit is =
+    record {
+      fit = fit;
+      whole = is ∙ ap (λ t. t ++ words word items) (append_assoc (one_word a) (codes " ") (decimal b)) ∙ append_assoc (one_word a) (one_word b) (words word items);
+      ends = λ digit. absurd (omega (arith, digit.0));
+    }
+
+-- numbers behind spaces are known by their words
+pub one_word-injective : (most m n : ℕ) → most < 2 ^ 64 → IsFromOneTo most m → IsFromOneTo most n → one_word m ≡ one_word n → m ≡ n
+one_word-injective most m n small fit fit' same = decimal_injective m n (omega (arith, fit.high)) (omega (arith, fit'.high)) (ap (drop 1) same)
+
+pub two_words-injective : (most most' a b c d : ℕ) → most < 2 ^ 64 → most' < 2 ^ 64 → IsFromOneTo most a → IsFromOneTo most' b → IsFromOneTo most c → IsFromOneTo most' d → two_words (a, b) ≡ two_words (c, d) → (a ≡ c) × (b ≡ d)
+two_words-injective most most' a b c d small small' fa fb fc fd same =
+    let firsts = word_once most most (two_words (a, b)) a c (one_word b) (one_word d) small small (first_reads most a b (two_words (a, b)) fa refl) (first_reads most c d (two_words (a, b)) fc same) in
+    (firsts.0, one_word-injective most' b d small' fb fd firsts.1)
+
+-- what follows the first of two numbers is the second
+pub not_two : (most most' : ℕ) (words : List ℕ) (n : ℕ) (rest : List ℕ) → most < 2 ^ 64 → ReadsWord decimal (IsFromOneTo most) words n rest → ((m : ℕ) → IsFromOneTo most' m → rest ≢ one_word m) → (pair : ℕ × ℕ) → AreFromOneTo most most' pair → words ≢ two_words pair
+not_two most most' words n rest small read none pair fit is =
+    none pair.1 fit.second ((word_once most most words n pair.0 rest (one_word pair.1) small small read (first_reads most pair.0 pair.1 words fit.first is)).1)

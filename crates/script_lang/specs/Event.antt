@@ -1,15 +1,15 @@
 -- The lines of a script that give its events.
-use Rattle.std.specs.Prelude.{ℕ, ◌≤◌, List, ◌++◌, length, All, flat_map, codes}
+use Rattle.std.specs.Prelude.{ℕ, ◌≤◌, List, ◌++◌, length, All, flat_map, codes, Option, None, Some}
 use Rattle.std.specs.Fmt.{decimal}
 use Rattle.kr_order.specs.declared.ids.EventId.{EventId}
 use Rattle.kr_order.specs.declared.ids.ClientId.{ClientId}
 use Rattle.kr_order.specs.declared.ids.ServerId.{ServerId}
 use Rattle.kr_order.specs.declared.batch.Pair.{Pair}
 use Rattle.kr_order.specs.declared.history.Command.{Command}
-use Rattle.kr_order.specs.declared.history.Command.TheVariants.{Create, Assign}
-use Rattle.kr_order.specs.Text.{command_word, command_words}
+use Rattle.kr_order.specs.declared.history.Command.TheVariants.{Create, Assign, Acquire, Release}
+use Rattle.kr_order.specs.Text.{command_word, command_words, asked_word}
 use Rattle.script_lang.specs.declared.script.Event.{Event}
-use Rattle.script_lang.specs.declared.script.Event.TheVariants.{Call, Query, Work, Deliver}
+use Rattle.script_lang.specs.declared.script.Event.TheVariants.{Call, Query, Retry, Deliver, Lose, Tick, Work, Show}
 use Rattle.script_lang.specs.Number.{IsFromOneTo}
 
 -- a number of a client, a server or a packet, as a line may give it
@@ -39,6 +39,8 @@ pub record ArePairs {pair : Type 0} (Fits : pair → Type 0) (pairs : List pair)
 abbrev pub IsCommand : Command → Type 0
 IsCommand Create = Unit {0}
 IsCommand (Assign batch) = ArePairs IsPair batch
+IsCommand (Acquire event) = IsEventNumber event.0
+IsCommand (Release event) = IsEventNumber event.0
 
 -- a command that a client begins by some line
 pub record IsCall (client : ClientId) (command : Command) : Type 0 where
@@ -52,6 +54,16 @@ pub record IsQuery (client : ClientId) (server : ServerId) (pairs : List (EventI
   pub some : 1 ≤ length pairs
   pub pairs_fit : ArePairs IsAskedPair pairs
 
+-- a call that some line sends again
+pub record IsRetry (client : ClientId) (server : ServerId) : Type 0 where
+  pub client_fits : IsNumber client.0
+  pub server_fits : IsNumber server.0
+
+-- a server that some line ticks; none is the manager, which no line ticks
+abbrev pub IsTicked : Option ServerId → Type 0
+IsTicked None = ⊥
+IsTicked (Some server) = IsNumber server.0
+
 -- work that some line gives a server
 pub record IsWork (server : ServerId) (workers : ℕ) : Type 0 where
   pub server_fits : IsNumber server.0
@@ -61,20 +73,45 @@ pub record IsWork (server : ServerId) (workers : ℕ) : Type 0 where
 abbrev pub IsEvent : Event → Type 0
 IsEvent (Call client command) = IsCall client command
 IsEvent (Query client server pairs) = IsQuery client server pairs
-IsEvent (Work server workers) = IsWork server workers
+IsEvent (Retry client server) = IsRetry client server
 IsEvent (Deliver k) = IsNumber k
-
--- a pair of a query, as 1,2
-abbrev pub asked_word : EventId × EventId → List ℕ
-asked_word pair = decimal pair.0.0 ++ codes "," ++ decimal pair.1.0
+IsEvent (Lose k) = IsNumber k
+IsEvent (Tick who) = IsTicked who
+IsEvent (Work server workers) = IsWork server workers
+IsEvent (Show server) = IsNumber server.0
 
 -- the words of a query, each with a space before it
 abbrev pub asked_words : List (EventId × EventId) → List ℕ
 asked_words pairs = flat_map (λ pair. codes " " ++ asked_word pair) pairs
 
+-- the number in the line of a tick, which is 0 for the manager
+abbrev pub ticked_number : Option ServerId → ℕ
+ticked_number None = 0
+ticked_number (Some server) = server.0
+
+-- the first word of its line
+abbrev pub event_word : Event → List ℕ
+event_word (Call client command) = command_word command
+event_word (Query client server pairs) = codes "query"
+event_word (Retry client server) = codes "retry"
+event_word (Deliver k) = codes "deliver"
+event_word (Lose k) = codes "lose"
+event_word (Tick who) = codes "tick"
+event_word (Work server workers) = codes "work"
+event_word (Show server) = codes "show"
+
+-- the words that follow it, each with a space before it
+abbrev pub event_words : Event → List ℕ
+event_words (Call client command) = codes " " ++ decimal client.0 ++ command_words command
+event_words (Query client server pairs) =
+    codes " " ++ decimal client.0 ++ codes " " ++ decimal server.0 ++ asked_words pairs
+event_words (Retry client server) = codes " " ++ decimal client.0 ++ codes " " ++ decimal server.0
+event_words (Deliver k) = codes " " ++ decimal k
+event_words (Lose k) = codes " " ++ decimal k
+event_words (Tick who) = codes " " ++ decimal (ticked_number who)
+event_words (Work server workers) = codes " " ++ decimal server.0 ++ codes " " ++ decimal workers
+event_words (Show server) = codes " " ++ decimal server.0
+
 -- its line, without the end
 abbrev pub event_text : Event → List ℕ
-event_text (Call client command) = command_word command ++ codes " " ++ decimal client.0 ++ command_words command
-event_text (Query client server pairs) = codes "query " ++ decimal client.0 ++ codes " " ++ decimal server.0 ++ asked_words pairs
-event_text (Work server workers) = codes "work " ++ decimal server.0 ++ codes " " ++ decimal workers
-event_text (Deliver k) = codes "deliver " ++ decimal k
+event_text event = event_word event ++ event_words event

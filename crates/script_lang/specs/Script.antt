@@ -2,7 +2,7 @@
 use Rattle.std.specs.Prelude.{◌⊎◌, ◌≡◌, ◌≢◌, ℕ, ◌+◌, List, [], ◌∷◌, ◌++◌, length, All, codes}
 use Rattle.std.specs.Fmt.{decimal}
 use Rattle.script_lang.specs.declared.script.Event.{Event}
-use Rattle.script_lang.specs.declared.script.Event.TheVariants.{Call, Query, Work, Deliver}
+use Rattle.script_lang.specs.declared.script.Event.TheVariants.{Query, Work}
 use Rattle.script_lang.specs.declared.script.Script.{Script}
 use Rattle.script_lang.specs.Line.{line}
 use Rattle.script_lang.specs.Number.{IsFromOneTo}
@@ -11,14 +11,13 @@ use Rattle.script_lang.specs.Event.{IsEvent, event_text}
 -- how many servers and clients a run may begin with
 pub record IsSize (servers clients : ℕ) : Type 0 where
   pub servers_fit : IsFromOneTo 8 servers
-  pub one_client : clients ≡ 1
+  pub clients_fit : IsFromOneTo 16 clients
 
 -- the event may stand in a script of so many servers: queries are answered where one server is the whole chain
 abbrev pub MayStand : ℕ → Event → Type 0
-MayStand servers (Call client command) = Unit {0}
 MayStand servers (Query client server pairs) = servers ≡ 1
 MayStand servers (Work server workers) = servers ≡ 1
-MayStand servers (Deliver k) = Unit {0}
+MayStand servers event = Unit {0}
 
 -- a script that some bytes spell
 pub record IsScript (script : Script) : Type 0 where
@@ -44,11 +43,15 @@ pub record Parses (bytes : List ℕ) (script : Script) : Type 0 where
 
 -- the bytes go on with the line of an event that may stand beside so many servers
 abbrev pub BeginsWithEvent : ℕ → List ℕ → Type 0
-BeginsWithEvent servers bytes = (event : Event) × (rest : List ℕ) × IsEvent event × MayStand servers event × (bytes ≡ line (event_text event) ++ rest)
+BeginsWithEvent servers bytes =
+    (event : Event) × (rest : List ℕ) × IsEvent event × MayStand servers event
+    × (bytes ≡ line (event_text event) ++ rest)
 
 -- the bytes begin with the first line of a script
 abbrev pub BeginsWithSize : List ℕ → Type 0
-BeginsWithSize bytes = (servers : ℕ) × (clients : ℕ) × (rest : List ℕ) × IsSize servers clients × (bytes ≡ first_line servers clients ++ rest)
+BeginsWithSize bytes =
+    (servers : ℕ) × (clients : ℕ) × (rest : List ℕ) × IsSize servers clients
+    × (bytes ≡ first_line servers clients ++ rest)
 
 -- the bytes are good lines, and then something that begins with no line of an event that may stand there; the
 -- bad line is the n-th

@@ -1,14 +1,14 @@
 //! The event of a line.
 
-ghost use Rattle.std.specs.Prelude.{◌++◌, IfOk, codes};
-ghost use Rattle.script_lang.specs.Event.{IsEvent, event_text};
-ghost use Rattle.script_lang.specs.Reading.{Spells};
+ghost use Rattle.std.specs.Prelude.{IfOk, codes};
+ghost use Rattle.script_lang.specs.Event.{IsEvent, event_text, event_words};
+ghost use Rattle.script_lang.specs.Reading.{Spells, IsEventOf};
 
 use crate::Event;
-use crate::line::behind;
-use crate::numbers::{number_in_front, number_of, two_in_front};
+use crate::line::{is, split_word};
+use crate::numbers::{number_word, one_number, two_numbers};
 use crate::pairs::pairs_of;
-use kr_order::{ClientId, Command, NoMemory, ServerId};
+use kr_order::{ClientId, Command, EventId, NoMemory, ServerId};
 use std::alloc::Global;
 
 // The greatest number of a client, a server or a packet.
@@ -20,33 +20,50 @@ const MOST_WORKERS: u64 = 8;
 // The smallest number of pairs in a query.
 const FEWEST_ASKED: usize = 1;
 
-// The event of the line, by its first word.
+// The event of the line.
 pub(crate) fn event_of(alloc: Global, text: &[u8]) -> Result<Option<Event>, NoMemory>
     ensures { IfOk result (λ read. Spells event_text IsEvent text.now read) }
 {
-    if let Some(rest) = behind(text, b"create ") {
-        return Ok(create_of(rest));
+    let (word, words) = split_word(text);
+    event_by(alloc, word, words)
+}
+
+// The event of a line with this first word and these words behind it.
+fn event_by(alloc: Global, word: &[u8], words: &[u8]) -> Result<Option<Event>, NoMemory>
+    ensures { IfOk result (λ read. Spells event_words (IsEventOf word.now) words.now read) }
+{
+    if is(word, b"create") {
+        Ok(create_of(words))
+    } else if is(word, b"assign") {
+        assign_of(alloc, words)
+    } else if is(word, b"acquire") {
+        Ok(acquire_of(words))
+    } else if is(word, b"release") {
+        Ok(release_of(words))
+    } else if is(word, b"query") {
+        query_of(alloc, words)
+    } else if is(word, b"retry") {
+        Ok(retry_of(words))
+    } else if is(word, b"deliver") {
+        Ok(deliver_of(words))
+    } else if is(word, b"lose") {
+        Ok(lose_of(words))
+    } else if is(word, b"tick") {
+        Ok(tick_of(words))
+    } else if is(word, b"work") {
+        Ok(work_of(words))
+    } else if is(word, b"show") {
+        Ok(show_of(words))
+    } else {
+        Ok(None)
     }
-    if let Some(rest) = behind(text, b"assign ") {
-        return assign_of(alloc, rest);
-    }
-    if let Some(rest) = behind(text, b"query ") {
-        return query_of(alloc, rest);
-    }
-    if let Some(rest) = behind(text, b"work ") {
-        return Ok(work_of(rest));
-    }
-    if let Some(rest) = behind(text, b"deliver ") {
-        return Ok(deliver_of(rest));
-    }
-    Ok(None)
 }
 
 // The event of `create c`, behind the first word.
-fn create_of(rest: &[u8]) -> Option<Event>
-    ensures { Spells event_text IsEvent (codes "create " ++ rest.now) result }
+fn create_of(words: &[u8]) -> Option<Event>
+    ensures { Spells event_words (IsEventOf (codes "create")) words.now result }
 {
-    let client = number_of(rest, MOST)?;
+    let client = one_number(words, MOST)?;
     Some(Event::Call {
         client: ClientId(client as u32),
         command: Command::Create,
@@ -54,13 +71,13 @@ fn create_of(rest: &[u8]) -> Option<Event>
 }
 
 // The event of `assign c P P ..`, behind the first word.
-fn assign_of(alloc: Global, rest: &[u8]) -> Result<Option<Event>, NoMemory>
-    ensures { IfOk result (λ read. Spells event_text IsEvent (codes "assign " ++ rest.now) read) }
+fn assign_of(alloc: Global, words: &[u8]) -> Result<Option<Event>, NoMemory>
+    ensures { IfOk result (λ read. Spells event_words (IsEventOf (codes "assign")) words.now read) }
 {
-    let Some((client, words)) = number_in_front(rest, MOST) else {
+    let Some((client, rest)) = number_word(words, MOST) else {
         return Ok(None);
     };
-    let Some(batch) = pairs_of(alloc, words)? else {
+    let Some(batch) = pairs_of(alloc, rest)? else {
         return Ok(None);
     };
     Ok(Some(Event::Call {
@@ -69,17 +86,39 @@ fn assign_of(alloc: Global, rest: &[u8]) -> Result<Option<Event>, NoMemory>
     }))
 }
 
-// The event of `query c s Q Q ..`, behind the first word.
-fn query_of(alloc: Global, rest: &[u8]) -> Result<Option<Event>, NoMemory>
-    ensures { IfOk result (λ read. Spells event_text IsEvent (codes "query " ++ rest.now) read) }
+// The event of `acquire c e`, behind the first word.
+fn acquire_of(words: &[u8]) -> Option<Event>
+    ensures { Spells event_words (IsEventOf (codes "acquire")) words.now result }
 {
-    let Some((client, sign, server, words)) = two_in_front(rest, MOST, MOST) else {
+    let (client, event) = two_numbers(words, MOST, u64::MAX)?;
+    Some(Event::Call {
+        client: ClientId(client as u32),
+        command: Command::Acquire(EventId(event)),
+    })
+}
+
+// The event of `release c e`, behind the first word.
+fn release_of(words: &[u8]) -> Option<Event>
+    ensures { Spells event_words (IsEventOf (codes "release")) words.now result }
+{
+    let (client, event) = two_numbers(words, MOST, u64::MAX)?;
+    Some(Event::Call {
+        client: ClientId(client as u32),
+        command: Command::Release(EventId(event)),
+    })
+}
+
+// The event of `query c s Q Q ..`, behind the first word.
+fn query_of(alloc: Global, words: &[u8]) -> Result<Option<Event>, NoMemory>
+    ensures { IfOk result (λ read. Spells event_words (IsEventOf (codes "query")) words.now read) }
+{
+    let Some((client, rest)) = number_word(words, MOST) else {
         return Ok(None);
     };
-    if sign != b' ' {
+    let Some((server, rest)) = number_word(rest, MOST) else {
         return Ok(None);
-    }
-    let Some(pairs) = pairs_of(alloc, words)? else {
+    };
+    let Some(pairs) = pairs_of(alloc, rest)? else {
         return Ok(None);
     };
     if pairs.len() < FEWEST_ASKED {
@@ -92,27 +131,56 @@ fn query_of(alloc: Global, rest: &[u8]) -> Result<Option<Event>, NoMemory>
     }))
 }
 
-// The event of `work s w`, behind the first word.
-fn work_of(rest: &[u8]) -> Option<Event>
-    ensures { Spells event_text IsEvent (codes "work " ++ rest.now) result }
+// The event of `retry c s`, behind the first word.
+fn retry_of(words: &[u8]) -> Option<Event>
+    ensures { Spells event_words (IsEventOf (codes "retry")) words.now result }
 {
-    let (server, sign, workers, after) = two_in_front(rest, MOST, MOST_WORKERS)?;
-    if sign != b' ' {
-        return None;
-    }
-    if !after.is_empty() {
-        return None;
-    }
+    let (client, server) = two_numbers(words, MOST, MOST)?;
+    Some(Event::Retry {
+        client: ClientId(client as u32),
+        server: ServerId(server as u32),
+    })
+}
+
+// The event of `deliver k`, behind the first word.
+fn deliver_of(words: &[u8]) -> Option<Event>
+    ensures { Spells event_words (IsEventOf (codes "deliver")) words.now result }
+{
+    let k = one_number(words, MOST)?;
+    Some(Event::Deliver(k))
+}
+
+// The event of `lose k`, behind the first word.
+fn lose_of(words: &[u8]) -> Option<Event>
+    ensures { Spells event_words (IsEventOf (codes "lose")) words.now result }
+{
+    let k = one_number(words, MOST)?;
+    Some(Event::Lose(k))
+}
+
+// The event of `tick s`, behind the first word.
+fn tick_of(words: &[u8]) -> Option<Event>
+    ensures { Spells event_words (IsEventOf (codes "tick")) words.now result }
+{
+    let server = one_number(words, MOST)?;
+    Some(Event::Tick(Some(ServerId(server as u32))))
+}
+
+// The event of `work s w`, behind the first word.
+fn work_of(words: &[u8]) -> Option<Event>
+    ensures { Spells event_words (IsEventOf (codes "work")) words.now result }
+{
+    let (server, workers) = two_numbers(words, MOST, MOST_WORKERS)?;
     Some(Event::Work {
         server: ServerId(server as u32),
         workers: workers as u32,
     })
 }
 
-// The event of `deliver k`, behind the first word.
-fn deliver_of(rest: &[u8]) -> Option<Event>
-    ensures { Spells event_text IsEvent (codes "deliver " ++ rest.now) result }
+// The event of `show s`, behind the first word.
+fn show_of(words: &[u8]) -> Option<Event>
+    ensures { Spells event_words (IsEventOf (codes "show")) words.now result }
 {
-    let k = number_of(rest, MOST)?;
-    Some(Event::Deliver(k))
+    let server = one_number(words, MOST)?;
+    Some(Event::Show(ServerId(server as u32)))
 }

@@ -1,6 +1,6 @@
 //! Laws of the grammar. Each function does nothing: its contract is the law, whose proof is checked with it.
 
-ghost use Rattle.script_lang.specs.Laws.{BadLinesAreInNoScript, TheBadLineIsOne, ASpellingIsOfOneScript, EachKindOfLineIsSpeltSo};
+ghost use Rattle.script_lang.specs.Laws.{BadLinesAreInNoScript, TheBadLineIsOne, ASpellingIsOfOneScript, ScriptsAreReadAsPrinted, EachKindOfLineIsSpeltSo};
 
 /// Bytes with a bad line spell no script.
 pub fn bad_lines_are_in_no_script()
@@ -15,6 +15,11 @@ pub fn the_bad_line_is_one()
 /// Bytes spell at most one script.
 pub fn a_spelling_is_of_one_script()
     ensures { ASpellingIsOfOneScript }
+{}
+
+/// Printing a script that was read gives the bytes again, and what is printed of a script spells it.
+pub fn scripts_are_read_as_printed()
+    ensures { ScriptsAreReadAsPrinted }
 {}
 
 /// This is how lines are spelt, one of each kind.

@@ -3,8 +3,9 @@
 ghost use Rattle.std.specs.Prelude.{◌≡◌, ℕ, List, ◌++◌, All, IfSome, IfNone};
 ghost use Rattle.std.specs.Fmt.{decimal};
 ghost use Rattle.script_lang.specs.Number.{IsFromOneTo, IsDigit, BeginsNoDigit, ReadsNumber, ReadsTwo};
-ghost use Rattle.script_lang.specs.Reading.{Spells};
+ghost use Rattle.script_lang.specs.Reading.{Spells, ReadsWord, AreFromOneTo, one_word, two_words};
 
+use crate::line::behind;
 use kr_text::read_number;
 
 // The number from 1 to `most` that the text spells.
@@ -44,7 +45,8 @@ pub(crate) fn two_in_front(
     then_limit: u64,
 ) -> Option<(u64, u8, u64, &[u8])>
     ensures some { IfSome result (λ read. ReadsTwo limit then_limit bytes.now read.0 read.1 read.2 read.3.now) }
-    ensures none { IfNone result ((a sign b : ℕ) (rest : List ℕ) → ReadsTwo limit then_limit bytes.now a sign b rest → ⊥) }
+    ensures none { IfNone result ((a sign b : ℕ) (rest : List ℕ) →
+        ReadsTwo limit then_limit bytes.now a sign b rest → ⊥) }
 {
     let (first, rest) = number_in_front(bytes, limit)?;
     let [sign, rest @ ..] = rest else {
@@ -52,4 +54,30 @@ pub(crate) fn two_in_front(
     };
     let (second, rest) = number_in_front(rest, then_limit)?;
     Some((first, *sign, second, rest))
+}
+
+// The number from 1 to `most` in front, behind a space, and what follows its last digit.
+pub(crate) fn number_word(bytes: &[u8], most: u64) -> Option<(u64, &[u8])>
+    ensures some { IfSome result (λ read. ReadsWord decimal (IsFromOneTo most) bytes.now read.0 read.1.now) }
+    ensures none { IfNone result ((n : ℕ) (rest : List ℕ) → ReadsWord decimal (IsFromOneTo most) bytes.now n rest → ⊥) }
+{
+    let word = behind(bytes, b" ")?;
+    number_in_front(word, most)
+}
+
+// The one number from 1 to `most` that the words give.
+pub(crate) fn one_number(words: &[u8], most: u64) -> Option<u64>
+    ensures { Spells one_word (IsFromOneTo most) words.now result }
+{
+    let word = behind(words, b" ")?;
+    number_of(word, most)
+}
+
+// The two numbers from 1 to these limits that the words give.
+pub(crate) fn two_numbers(words: &[u8], limit: u64, then_limit: u64) -> Option<(u64, u64)>
+    ensures { Spells two_words (AreFromOneTo limit then_limit) words.now result }
+{
+    let (first, rest) = number_word(words, limit)?;
+    let second = one_number(rest, then_limit)?;
+    Some((first, second))
 }

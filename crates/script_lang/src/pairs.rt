@@ -50,7 +50,8 @@ impl Spelt for Pair {
 }
 
 impl Spelt for (EventId, EventId) {
-    ghost use Rattle.script_lang.specs.Event.{IsAskedPair, asked_word};
+    ghost use Rattle.kr_order.specs.Text.{asked_word};
+    ghost use Rattle.script_lang.specs.Event.{IsAskedPair};
 
     ghost word = { asked_word };
 

@@ -16,7 +16,7 @@ use thiserror::Error;
 const MOST_SERVERS: u64 = 8;
 
 // That of clients.
-const MOST_CLIENTS: u64 = 1;
+const MOST_CLIENTS: u64 = 16;
 
 /// Why bytes are not read as a script.
 #[derive(Clone, Copy, Debug, PartialEq, Eq, Error)]
@@ -76,8 +76,8 @@ fn may_stand(servers: u32, event: &Event) -> bool
     ensures { IsTrue result ↔ MayStand servers event.now }
 {
     match event {
-        Event::Call { .. } | Event::Deliver(_) => true,
         Event::Query { .. } | Event::Work { .. } => servers == 1,
+        _ => true,
     }
 }
 

@@ -1,12 +1,13 @@
 //! Events and scripts.
 
-use kr_order::{Asked, ClientId, Command, Listed, ServerId};
+use kr_order::{Asked, ClientId, Command, Copied, Listed, NoMemory, ServerId};
+use std::alloc::Global;
 
 /// One step of a run, as one line of a script has it.
 #[derive(Debug, Drop)]
 pub enum Event {
-    /// `create c`, or `assign c P P ..` with a word `a!b` for each must and `a?b` for each prefer: the client
-    /// begins the command.
+    /// `create c`, `acquire c e`, `release c e`, or `assign c P P ..` with a word `a!b` for each must and `a?b`
+    /// for each prefer: the client begins the command.
     Call {
         client: ClientId,
         command: Command,
@@ -18,23 +19,66 @@ pub enum Event {
         server: ServerId,
         pairs: Asked,
     },
+    /// `retry c s`: the client sends its open call to the server again.
+    Retry {
+        client: ClientId,
+        server: ServerId,
+    },
+    /// `deliver k`: the addressee of packet k takes it.
+    Deliver(u64),
+    /// `lose k`: packet k is delivered no more.
+    Lose(u64),
+    /// `tick s`: the server tells the others again how far it is. `None` is the manager, which no line ticks.
+    Tick(Option<ServerId>),
     /// `work s w`: the server answers the queries that wait there, by so many workers. It stands only in a
     /// script of one server.
     Work {
         server: ServerId,
         workers: u32,
     },
-    /// `deliver k`: the addressee of packet k takes it.
-    Deliver(u64),
+    /// `show s`: what the server holds is printed.
+    Show(ServerId),
 }
 
 /// The events of a script, in order.
 pub type ScriptEvents = Listed<Event>;
 
-/// How many servers and clients a run begins with, 1 to 8 servers and one client, and what happens in it.
+/// How many servers and clients a run begins with, 1 to 8 servers and 1 to 16 clients, and what happens in it.
 #[derive(Debug, Drop)]
 pub struct Script {
     pub servers: u32,
     pub clients: u32,
     pub events: ScriptEvents,
+}
+
+impl Copied for Event {
+    fn copy(&self, alloc: Global) -> Result<Self, NoMemory> {
+        match self {
+            Event::Call { client, command } => Ok(Event::Call {
+                client: *client,
+                command: command.copy(alloc)?,
+            }),
+            Event::Query {
+                client,
+                server,
+                pairs,
+            } => Ok(Event::Query {
+                client: *client,
+                server: *server,
+                pairs: pairs.copy()?,
+            }),
+            Event::Retry { client, server } => Ok(Event::Retry {
+                client: *client,
+                server: *server,
+            }),
+            Event::Deliver(k) => Ok(Event::Deliver(*k)),
+            Event::Lose(k) => Ok(Event::Lose(*k)),
+            Event::Tick(who) => Ok(Event::Tick(*who)),
+            Event::Work { server, workers } => Ok(Event::Work {
+                server: *server,
+                workers: *workers,
+            }),
+            Event::Show(server) => Ok(Event::Show(*server)),
+        }
+    }
 }

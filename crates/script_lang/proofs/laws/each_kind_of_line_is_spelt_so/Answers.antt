@@ -3,7 +3,7 @@ use Rattle.std.specs.Prelude.{All}
 use Rattle.std.specs.Fmt.{digits}
 use Rattle.std.proofs.lemmas.List.Elements.{All-from_recursion}
 use Rattle.script_lang.specs.Number.{IsFromOneTo}
-use Rattle.script_lang.specs.Event.{IsEvent, IsEventNumber, IsPair, IsAskedPair}
+use Rattle.script_lang.specs.Event.{IsEvent, IsNumber, IsEventNumber, IsPair, IsAskedPair, ArePairs}
 use Rattle.script_lang.specs.Rows.{must, prefer, asked, pairs_of_batch, pairs_of_query, each_kind, each_kind_of_event, of_three}
 use Rattle.script_lang.specs.Script.{MayStand, IsScript}
 use Rattle.script_lang.proofs.laws.each_kind_of_line_is_spelt_so.Goals as goal
@@ -29,18 +29,57 @@ batch_fits = All-from_recursion IsPair pairs_of_batch (must_fits 1 2 (event_numb
 query_fits : All IsAskedPair pairs_of_query
 query_fits = All-from_recursion IsAskedPair pairs_of_query (asked_fits 1 2 (event_number 1 (omega arith) (omega arith)) (event_number 2 (omega arith) (omega arith)), (asked_fits 3 3 (event_number 3 (omega arith) (omega arith)) (event_number 3 (omega arith) (omega arith)), tt))
 
+small : (n : ℕ) → 1 ≤ n → n ≤ 4294967295 → IsNumber n
+small n low high = in_range 4294967295 n low high
+
+one : IsNumber 1
+one = small 1 (omega arith) (omega arith)
+
+two : IsNumber 2
+two = small 2 (omega arith) (omega arith)
+
+greatest : IsNumber 4294967295
+greatest = small 4294967295 (omega arith) (omega arith)
+
+first_event : IsEventNumber 1
+first_event = event_number 1 (omega arith) (omega arith)
+
+batch_of_none : ArePairs IsPair []
+batch_of_none = record { most = omega arith; each = All-from_recursion IsPair [] tt }
+
+batch_of_two : ArePairs IsPair pairs_of_batch
+batch_of_two = record { most = omega arith; each = batch_fits }
+
 each_fits : All IsEvent each_kind_of_event
 each_fits = All-from_recursion IsEvent each_kind_of_event (
-  record { client_fits = in_range 4294967295 1 (omega arith) (omega arith); command_fits = tt },
+  record { client_fits = one; command_fits = tt },
   (
-    record { client_fits = in_range 4294967295 2 (omega arith) (omega arith); command_fits = record { most = omega arith; each = All-from_recursion IsPair [] tt } },
+    record { client_fits = two; command_fits = batch_of_none },
     (
-      record { client_fits = in_range 4294967295 4294967295 (omega arith) (omega arith); command_fits = record { most = omega arith; each = batch_fits } },
+      record { client_fits = greatest; command_fits = batch_of_two },
       (
-        record { client_fits = in_range 4294967295 1 (omega arith) (omega arith); server_fits = in_range 4294967295 2 (omega arith) (omega arith); some = omega arith; pairs_fit = record { most = omega arith; each = query_fits } },
+        record { client_fits = one; command_fits = event_number 18446744073709551615 (omega arith) (omega arith) },
         (
-          record { server_fits = in_range 4294967295 1 (omega arith) (omega arith); workers_fit = in_range 8 8 (omega arith) (omega arith) },
-          (in_range 4294967295 4294967295 (omega arith) (omega arith), tt),
+          record { client_fits = small 16 (omega arith) (omega arith); command_fits = first_event },
+          (
+            record { client_fits = one; server_fits = two; some = omega arith; pairs_fit = record { most = omega arith; each = query_fits } },
+            (
+              record { client_fits = one; server_fits = greatest },
+              (
+                greatest,
+                (
+                  one,
+                  (
+                    greatest,
+                    (
+                      record { server_fits = one; workers_fit = in_range 8 8 (omega arith) (omega arith) },
+                      (small 10 (omega arith) (omega arith), tt),
+                    ),
+                  ),
+                ),
+              ),
+            ),
+          ),
         ),
       ),
     ),
@@ -48,17 +87,33 @@ each_fits = All-from_recursion IsEvent each_kind_of_event (
 )
 
 each_stands : All (MayStand 1) each_kind_of_event
-each_stands = All-from_recursion (MayStand 1) each_kind_of_event (tt, (tt, (tt, (refl, (refl, (tt, tt))))))
+each_stands =
+    All-from_recursion (MayStand 1) each_kind_of_event (tt, (tt, (tt, (tt, (tt, (refl, (tt, (tt, (tt, (tt, (refl, (tt, tt))))))))))))
 
 each_kind_fits : IsScript each_kind
-each_kind_fits = record { size = record { servers_fit = in_range 8 1 (omega arith) (omega arith); one_client = refl }; each = each_fits; stand = each_stands }
+each_kind_fits = record { size = record { servers_fit = in_range 8 1 (omega arith) (omega arith); clients_fit = in_range 16 16 (omega arith) (omega arith) }; each = each_fits; stand = each_stands }
 
 of_three_fits : IsScript of_three
 of_three_fits =
     record {
-      size = record { servers_fit = in_range 8 3 (omega arith) (omega arith); one_client = refl };
-      each = All-from_recursion IsEvent of_three.events (record { client_fits = in_range 4294967295 1 (omega arith) (omega arith); command_fits = tt }, (in_range 4294967295 1 (omega arith) (omega arith), tt));
-      stand = All-from_recursion (MayStand 3) of_three.events (tt, (tt, tt));
+      size = record { servers_fit = in_range 8 3 (omega arith) (omega arith); clients_fit = in_range 16 2 (omega arith) (omega arith) };
+      each = All-from_recursion IsEvent of_three.events (
+        record { client_fits = one; command_fits = tt },
+        (
+          record { client_fits = two; command_fits = batch_of_two },
+          (
+            record { client_fits = one; command_fits = first_event },
+            (
+              record { client_fits = two; command_fits = first_event },
+              (
+                record { client_fits = one; server_fits = two },
+                (one, (two, (small 3 (omega arith) (omega arith), (one, tt)))),
+              ),
+            ),
+          ),
+        ),
+      );
+      stand = All-from_recursion (MayStand 3) of_three.events (tt, (tt, (tt, (tt, (tt, (tt, (tt, (tt, (tt, tt)))))))));
     }
 
 pub returns : goal.returns
