@@ -14,7 +14,7 @@ use Rattle.dep_graph.specs.GraphView.{event_at}
 use Rattle.dep_graph.specs.Links.{slot_of, slots_of}
 
 -- what stands under a key is seen as its event
-event_at-slots : (cells : Slab Cell) (key : ℕ) → event_at (slots_of cells) key ≡ slot_of (get cells key)
+pub event_at-slots : (cells : Slab Cell) (key : ℕ) → event_at (slots_of cells) key ≡ slot_of (get cells key)
 event_at-slots cells key = get_or-map slot_of cells.slots key None
 
 -- there is a cell of the event under the key

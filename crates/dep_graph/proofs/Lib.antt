@@ -1,7 +1,11 @@
-pub mod ChainLemmas
+pub mod TableLemmas
 pub mod HeldLemmas
-pub mod PairLemmas
 pub mod CellLemmas
+pub mod ChainLemmas
+pub mod PairLemmas
+pub mod DropLemmas
 pub mod SoundLemmas
-pub mod VertexLemmas
 pub mod LinkLemmas
+pub mod UnlinkLemmas
+pub mod ChangeLemmas
+pub mod RebuildLemmas

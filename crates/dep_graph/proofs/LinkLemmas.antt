@@ -1,209 +1,214 @@
--- What always holds of a graph holds with one more pair.
-use Rattle.std.proofs.Common.{◌≡◌, ℕ, ◌+◌, Bool, true, false, cond, eqb, ◌||◌, List, [], ◌∷◌, ◌++◌, length, get_or, refl, sym, ap, ◌∙◌, subst, inl, inr, arith, length-append}
-use Rattle.std.specs.Prelude.{Some, map}
-use Rattle.std.proofs.lemmas.Option.{same_Some}
-use Rattle.std.specs.List.{All, AllPairs}
-use Rattle.std.proofs.lemmas.Bool.{both_ways, cases_eq, cases_lt, eq-eqb, eqb-true, eqb-false, false_from_ne_true}
-use Rattle.std.proofs.lemmas.List.{get_or_append_left, map-append}
-use Rattle.std.proofs.lemmas.List.Elements.{All-push}
-use Rattle.std.proofs.lemmas.List.Quantifiers.{all_pairs_push}
-use Rattle.kr_order.specs.Order.{reach, IsAcyclic}
-use Rattle.kr_order.proofs.OrderLemmas.{IsAcyclic-push}
+-- The links and the cells of a graph, with one more link and with one that was taken out.
+use Rattle.std.proofs.Common.{◌≡◌, ℕ, ◌+◌, ◌-◌, ◌<◌, ◌≤◌, Bool, true, false, cond, eqb, List, [], ◌∷◌, ◌++◌, length, get_or, set, refl, sym, ap, ◌∙◌, subst, inl, inr, arith, length-append, add-zero, suc}
+use Rattle.std.specs.Prelude.{Option, None, Some, map, reverse}
+use Rattle.std.specs.Option.{option_map}
+use Rattle.std.specs.List.{All}
+use Rattle.std.proofs.lemmas.Option.{none-some, same_Some}
+use Rattle.std.proofs.lemmas.Bool.{both_ways, cases_eq, eq-eqb, eqb-true, eqb-false, ne_eqb, false_from_ne_true}
+use Rattle.std.proofs.lemmas.List.{reverse-append, length-reverse, get_or-reverse, reverse-reverse, get_or_past, get_or-set_same, get_or-set_other}
+use Rattle.std.proofs.lemmas.List.Elements.{All-push, All-set, filter_map-append}
+use Rattle.std.proofs.lemmas.List.Sums.{count_by-le-length}
 use Rattle.slab.specs.Slab.{Slab, get, with_value}
 use Rattle.dep_graph.specs.declared.outs.Link.{Link}
 use Rattle.dep_graph.specs.declared.graph.Cell.{Cell}
-use Rattle.dep_graph.specs.GraphView.{event_at, outs_of, ins_of, JoinsHeld, CanAdd}
-use Rattle.dep_graph.specs.Links.{pair_of, chain, IsBelow, AreFalling, slots_of, IsCellOf, IsKeptAt, IsListed, LeadsRight, IsSound}
-use Rattle.dep_graph.proofs.ChainLemmas.{IsBelow-more, chain-append, chain-last}
-use Rattle.dep_graph.proofs.HeldLemmas.{index_once}
-use Rattle.dep_graph.proofs.CellLemmas.{Holds, event_at-cell, get-with_same, get-with_other, slots_of-with}
-use Rattle.dep_graph.proofs.PairLemmas.{outs_of-push, ins_of-push, differs}
-use Rattle.dep_graph.proofs.SoundLemmas.{named_at, get_or-last}
+use Rattle.dep_graph.specs.GraphView.{event_at, outs_of, ins_of}
+use Rattle.dep_graph.specs.Links.{pair_of, pairs_in, newest_in, newest_of, AreChained, AreChainedIn, slots_of, IsBetween, JoinsCells, AreLinked, IsTakenOut}
+use Rattle.dep_graph.proofs.ChainLemmas.{cut, chain-newest, chain_in-none}
+use Rattle.dep_graph.proofs.CellLemmas.{Holds, holds, event_at-cell, get-with_same, get-with_other, slots_of-with}
+use Rattle.dep_graph.proofs.PairLemmas.{ins_of-push, ins-between}
+use Rattle.dep_graph.proofs.DropLemmas.{IsGap, gap}
+use Rattle.dep_graph.proofs.SoundLemmas.{JoinsCells-same}
 
--- what is kept of an event with one more pair
-IsCellOf-push : (links : List Link) (link : Link) (event : ℕ) (old new : Cell) → IsCellOf links event old → new.newest ≡ cond (eqb link.first.0 event) (Some (length links)) old.newest → new.in_count ≡ old.in_count + cond (eqb link.second.0 event) 1 0 → (eqb link.first.0 event ≡ true → link.next ≡ old.newest) → IsCellOf (links ++ link ∷ []) event new
-IsCellOf-push links link event old new was newest in_count next =
-    record {
-      start = subst (IsBelow (length (links ++ link ∷ []))) (sym newest) (start (eqb link.first.0 event));
-      outs = ap (λ at. map (λ (out : ℕ × ℕ). out.1) (chain (links ++ link ∷ []) at)) newest ∙ outs (eqb link.first.0 event) refl ∙ sym (outs_of-push pairs link.first.0 link.second.0 event) ∙ ap (λ ps. outs_of ps event) (sym more);
-      ins = in_count ∙ ap (λ n. n + cond (eqb link.second.0 event) 1 0) was.ins ∙ sym (ins_of-push pairs link.first.0 link.second.0 event) ∙ ap (λ ps. ins_of ps event) (sym more);
-    }
-  where
-    pairs : List (ℕ × ℕ)
-    pairs = map pair_of links
+-- a cell with another newest link
+abbrev pub started : Cell → Option ℕ → Cell
+started cell start = record { event = cell.event; in_count = cell.in_count; newest = start }
 
-    more : map pair_of (links ++ link ∷ []) ≡ pairs ++ pair_of link ∷ []
-    more = map-append pair_of links (link ∷ [])
+-- a cell with another count of predecessors
+abbrev pub counted : Cell → ℕ → Cell
+counted cell count = record { event = cell.event; in_count = count; newest = cell.newest }
 
-    start : (is_first : Bool) → IsBelow (length (links ++ link ∷ [])) (cond is_first (Some (length links)) old.newest)
-    start true = omega (arith, length-append links (link ∷ []))
-    start false = IsBelow-more (length links) (length (links ++ link ∷ [])) old.newest (omega (arith, length-append links (link ∷ []))) was.start
+-- the cells after a change of the newest link of one, and of the count of another
+abbrev pub cells_with : Slab Cell → ℕ → ℕ → Cell → Cell → Option ℕ → ℕ → Slab Cell
+cells_with cells from to first second start count = with_value (with_value cells from (started first start)) to (counted second count)
 
-    outs : (is_first : Bool) → eqb link.first.0 event ≡ is_first → map (λ (out : ℕ × ℕ). out.1) (chain (links ++ link ∷ []) (cond is_first (Some (length links)) old.newest)) ≡ cond is_first (link.second.0 ∷ outs_of pairs event) (outs_of pairs event)
-    outs true is =
-        ap (map (λ (out : ℕ × ℕ). out.1)) (chain-last links link (length links) refl) ∙ ap (λ at. link.second.0 ∷ map (λ (out : ℕ × ℕ). out.1) (chain links at)) (next is) ∙ ap (λ l. link.second.0 ∷ l) was.outs
-    outs false is = ap (map (λ (out : ℕ × ℕ). out.1)) (chain-append links (link ∷ []) old.newest was.start) ∙ was.outs
-
--- the cell of a pair's first event, whose chain begins with the new link
-abbrev pub started : Cell → ℕ → Cell
-started cell at = record { event = cell.event; in_count = cell.in_count; newest = Some at }
-
--- the cell of its second event, which has one more predecessor
-abbrev pub counted : Cell → Cell
-counted cell = record { event = cell.event; in_count = cell.in_count + 1; newest = cell.newest }
-
--- the cells after a pair was added
-abbrev pub cells_with : Slab Cell → ℕ → ℕ → Cell → Cell → ℕ → Slab Cell
-cells_with cells from to first second at = with_value (with_value cells from (started first at)) to (counted second)
+-- what is known of these two cells
+pub record AreEnds (cells : Slab Cell) (from to a b : ℕ) (first second : Cell) (start : Option ℕ) : Type 0 where
+  pub in_from : get cells from ≡ Some first
+  pub in_to : get (with_value cells from (started first start)) to ≡ Some second
+  pub at_from : event_at (slots_of cells) from ≡ Some a
+  pub at_to : event_at (slots_of cells) to ≡ Some b
+  pub apart : eqb a b ≡ false
 
 -- each event stays in its cell
-pub slots_of-cells_with : (cells : Slab Cell) (from to at : ℕ) (first second : Cell) → get cells from ≡ Some first → get (with_value cells from (started first at)) to ≡ Some second → slots_of (cells_with cells from to first second at) ≡ slots_of cells
-slots_of-cells_with cells from to at first second in_from in_to =
-    slots_of-with (with_value cells from (started first at)) to second (counted second) in_to refl ∙ slots_of-with cells from first (started first at) in_from refl
+pub slots_of-cells_with : (cells : Slab Cell) (from to : ℕ) (first second : Cell) (start : Option ℕ) (count : ℕ) → get cells from ≡ Some first → get (with_value cells from (started first start)) to ≡ Some second → slots_of (cells_with cells from to first second start count) ≡ slots_of cells
+slots_of-cells_with cells from to first second start count in_from in_to =
+    slots_of-with (with_value cells from (started first start)) to second (counted second count) in_to refl ∙ slots_of-with cells from first (started first start) in_from refl
 
--- a graph with one more pair
-pub IsSound-pair : (events keys : List ℕ) (cells : Slab Cell) (links : List Link) (link : Link) (from at : ℕ) (first second : Cell) → IsSound events keys cells links → CanAdd events (map pair_of links) link.first.0 link.second.0 → IsListed events keys from link.first.0 → IsListed events keys link.to link.second.0 → at ≡ length links → get cells from ≡ Some first → link.next ≡ first.newest → get (with_value cells from (started first at)) link.to ≡ Some second → IsSound events keys (cells_with cells from link.to first second at) (links ++ link ∷ [])
-IsSound-pair events keys cells links link from at first second sound fits of_from of_to at_is first_is next_is second_is =
-    record {
-      rising = sound.rising;
-      joined = subst (All (JoinsHeld events)) (sym more) (All-push (JoinsHeld events) pairs (a, b) sound.joined (record { first = fits.first; second = fits.second }));
-      distinct = subst (AllPairs (λ p q. p ≡ q → ⊥)) (sym more) (all_pairs_push (λ p q. p ≡ q → ⊥) pairs (a, b) sound.distinct (differs pairs a b fits.is_new));
-      acyclic = subst IsAcyclic (sym more) (IsAcyclic-push pairs a b sound.acyclic (ap (λ t. t || reach pairs b a) fits.apart ∙ fits.not_back));
-      falling = falling;
-      leads = leads;
-      parallel = sound.parallel;
-      each = λ k below.
-          let was = sound.each k below in
-          kept_after (get_or keys k 0) (get_or events k 0) was.cell was.at was.named was.kept;
-      listed = listed;
-    }
+-- the event in a cell
+pub named : (cells : Slab Cell) (key event : ℕ) (cell : Cell) → get cells key ≡ Some cell → event_at (slots_of cells) key ≡ Some event → cell.event.0 ≡ event
+named cells key event cell at is = same_Some cell.event.0 event (sym (event_at-cell cells key cell at) ∙ is)
+
+-- what was and what is in the cells
+pub record AreChanged (cells new : Slab Cell) (from to a b : ℕ) (first second : Cell) (start : Option ℕ) (count : ℕ) : Type 1 where
+  pub first_named : first.event.0 ≡ a
+  pub second_named : second.event.0 ≡ b
+  pub second_was : get cells to ≡ Some second
+  pub slots : slots_of new ≡ slots_of cells
+  pub at : (key : ℕ) (cell : Cell) → get new key ≡ Some cell → (P : Cell → Type 0) → P (started first start) → P (counted second count) → ((was : Cell) → get cells key ≡ Some was → eqb a was.event.0 ≡ false → eqb b was.event.0 ≡ false → P was) → P cell
+
+pub changed : (cells : Slab Cell) (links : List (Option Link)) (from to a b : ℕ) (first second : Cell) (start : Option ℕ) (count : ℕ) → AreLinked cells links → AreEnds cells from to a b first second start → AreChanged cells (cells_with cells from to first second start count) from to a b first second start count
+changed cells links from to a b first second start count linked ends =
+    record { first_named = first_named; second_named = named cells to b second second_was ends.at_to; second_was = second_was; slots = slots_of-cells_with cells from to first second start count ends.in_from ends.in_to; at = at }
   where
-    a : ℕ
-    a = link.first.0
-
-    b : ℕ
-    b = link.second.0
-
-    pairs : List (ℕ × ℕ)
-    pairs = map pair_of links
-
     new : Slab Cell
-    new = cells_with cells from link.to first second at
+    new = cells_with cells from to first second start count
 
-    more : map pair_of (links ++ link ∷ []) ≡ pairs ++ (a, b) ∷ []
-    more = map-append pair_of links (link ∷ [])
-
-    in_from : Holds cells from a
-    in_from = named_at events keys cells links from a sound of_from
-
-    in_to : Holds cells link.to b
-    in_to = named_at events keys cells links link.to b sound of_to
-
-    apart : from ≡ link.to → ⊥
-    apart same =
-        let one = same_Some in_from.cell in_to.cell (sym in_from.at ∙ ap (get cells) same ∙ in_to.at) in
-        eqb-false a b fits.apart (sym in_from.named ∙ ap (λ (c : Cell). c.event.0) one ∙ in_to.named)
+    apart : from ≡ to → ⊥
+    apart same = eqb-false a b ends.apart (same_Some a b (sym ends.at_from ∙ ap (event_at (slots_of cells)) same ∙ ends.at_to))
 
     first_named : first.event.0 ≡ a
-    first_named = ap (λ (c : Cell). c.event.0) (same_Some first in_from.cell (sym first_is ∙ in_from.at)) ∙ in_from.named
+    first_named = named cells from a first ends.in_from ends.at_from
 
-    -- the second event's cell before the pair
-    second_was : get cells link.to ≡ Some second
-    second_was = sym (get-with_other cells from link.to (started first at) (λ same. apart (sym same))) ∙ second_is
+    second_was : get cells to ≡ Some second
+    second_was = sym (get-with_other cells from to (started first start) (λ same. apart (sym same))) ∙ ends.in_to
 
-    second_named : second.event.0 ≡ b
-    second_named = ap (λ (c : Cell). c.event.0) (same_Some second in_to.cell (sym second_was ∙ in_to.at)) ∙ in_to.named
+    -- another cell is of another event
+    other : (key i event : ℕ) (cell : Cell) → get cells key ≡ Some cell → event_at (slots_of cells) i ≡ Some event → (key ≡ i → ⊥) → eqb event cell.event.0 ≡ false
+    other key i event cell in_key at_i differs =
+        ne_eqb event cell.event.0 (λ same. differs (linked.one_cell key i cell.event.0 (event_at-cell cells key cell in_key) (at_i ∙ ap Some same)))
 
-    new_first : get new from ≡ Some (started first at)
-    new_first = get-with_other (with_value cells from (started first at)) link.to from (counted second) apart ∙ get-with_same cells from first (started first at) first_is
-
-    new_second : get new link.to ≡ Some (counted second)
-    new_second = get-with_same (with_value cells from (started first at)) link.to second (counted second) second_is
-
-    new_other : (key : ℕ) → (key ≡ from → ⊥) → (key ≡ link.to → ⊥) → get new key ≡ get cells key
-    new_other key not_from not_to =
-        get-with_other (with_value cells from (started first at)) link.to key (counted second) not_to ∙ get-with_other cells from key (started first at) not_from
-
-    -- another key is of another event
-    other_event : (key i event : ℕ) (cell : Cell) → get cells key ≡ Some cell → IsListed events keys i event → (key ≡ i → ⊥) → eqb event cell.event.0 ≡ false
-    other_event key i event cell in_key listed_i other =
-        false_from_ne_true (eqb event cell.event.0) (λ same.
-        let at_key = sound.listed key cell in_key in
-        let one = index_once events at_key.at listed_i.at sound.rising at_key.below listed_i.below (at_key.has_event ∙ sym (eqb-true event cell.event.0 same) ∙ sym listed_i.has_event) in
-        other (sym at_key.has_key ∙ ap (λ k. get_or keys k 0) one ∙ listed_i.has_key))
-
-    falling : AreFalling (links ++ link ∷ [])
-    falling k d below =
-        elim (cases_lt k (length links)) [
-          | inl old ↦ subst (λ (l : Link). IsBelow k l.next) (sym (get_or_append_left links (link ∷ []) d k old)) (sound.falling k d old)
-          | inr past ↦
-              let last : k ≡ length links = omega (arith, length-append links (link ∷ [])) in
-              let there = sound.each of_from.at of_from.below in
-              let one : there.cell ≡ first = same_Some there.cell first (sym there.at ∙ ap (get cells) of_from.has_key ∙ first_is) in
-              let start : IsBelow (length links) first.newest = subst (λ (c : Cell). IsBelow (length links) c.newest) one there.kept.start in
-              rw (get_or-last links link k d last, next_is, last) start
+    at : (key : ℕ) (cell : Cell) → get new key ≡ Some cell → (P : Cell → Type 0) → P (started first start) → P (counted second count) → ((was : Cell) → get cells key ≡ Some was → eqb a was.event.0 ≡ false → eqb b was.event.0 ≡ false → P was) → P cell
+    at key cell in_new P at_first at_second at_other =
+        elim (cases_eq key to) [
+          | inl is_to ↦
+              let one = same_Some (counted second count) cell (sym (get-with_same (with_value cells from (started first start)) to second (counted second count) ends.in_to) ∙ ap (get new) (sym is_to) ∙ in_new) in
+              subst P one at_second
+          | inr not_to ↦
+              let then = sym (get-with_other (with_value cells from (started first start)) to key (counted second count) not_to) ∙ in_new in
+              elim (cases_eq key from) [
+                | inl is_from ↦
+                    let one = same_Some (started first start) cell (sym (get-with_same cells from first (started first start) ends.in_from) ∙ ap (get (with_value cells from (started first start))) (sym is_from) ∙ then) in
+                    subst P one at_first
+                | inr not_from ↦
+                    let was = sym (get-with_other cells from key (started first start) not_from) ∙ then in
+                    at_other cell was (other key from a cell was ends.at_from not_from) (other key to b cell was ends.at_to not_to)
+              ]
         ]
 
-    leads : All (LeadsRight new) (links ++ link ∷ [])
-    leads =
-        let same = slots_of-cells_with cells from link.to at first second first_is second_is in
-        let old : All (LeadsRight new) links = λ k d below. ap (λ slots. event_at slots (get_or links k d).to) same ∙ sound.leads k d below in
-        All-push (LeadsRight new) links link old (ap (λ slots. event_at slots link.to) same ∙ event_at-cell cells link.to in_to.cell in_to.at ∙ ap Some in_to.named)
+-- the newest link of an event with one more link, and the pairs
+pub newest_of-push : (links : List (Option Link)) (link : Link) (event : ℕ) → newest_of (links ++ Some link ∷ []) event ≡ cond (eqb link.first.0 event) (Some (length links)) (newest_of links event)
+newest_of-push links link event =
+    ap (λ l. newest_in l event) (reverse-append links (Some link ∷ [])) ∙ ap (λ n. cond (eqb link.first.0 event) (Some n) (newest_of links event)) (length-reverse links)
 
-    -- the cell of the first event
-    at_first : (event : ℕ) (cell : Cell) → get cells from ≡ Some cell → cell.event.0 ≡ event → IsCellOf links event cell → IsKeptAt (links ++ link ∷ []) new from event
-    at_first event cell in_cells named kept =
-        let one : cell ≡ first = same_Some cell first (sym in_cells ∙ first_is) in
-        let is_a : a ≡ event = sym first_named ∙ ap (λ (c : Cell). c.event.0) (sym one) ∙ named in
-        let kept_first : IsCellOf links event first = subst (IsCellOf links event) one kept in
-        let is_first : eqb a event ≡ true = eq-eqb a event is_a in
-        let is_not_second : eqb b event ≡ false = false_from_ne_true (eqb b event) (λ same. eqb-false a b fits.apart (is_a ∙ sym (eqb-true b event same))) in
-        let newest : Some at ≡ cond (eqb a event) (Some (length links)) first.newest = ap Some at_is ∙ sym (ap (λ t. cond t (Some (length links)) first.newest) is_first) in
-        let in_count : first.in_count ≡ first.in_count + cond (eqb b event) 1 0 = sym (ap (λ t. first.in_count + cond t 1 0) is_not_second ∙ omega arith) in
-        record { cell = started first at; at = new_first; named = first_named ∙ is_a; kept = IsCellOf-push links link event first (started first at) kept_first newest in_count (λ _. next_is) }
+pub pairs_in-push : (links : List (Option Link)) (link : Link) → pairs_in (links ++ Some link ∷ []) ≡ pairs_in links ++ pair_of link ∷ []
+pairs_in-push links link = filter_map-append (option_map pair_of) links (Some link ∷ [])
 
-    -- the cell of the second event
-    at_second : (event : ℕ) (cell : Cell) → get cells link.to ≡ Some cell → cell.event.0 ≡ event → IsCellOf links event cell → IsKeptAt (links ++ link ∷ []) new link.to event
-    at_second event cell in_cells named kept =
-        let one : cell ≡ second = same_Some cell second (sym in_cells ∙ second_was) in
-        let is_b : b ≡ event = sym second_named ∙ ap (λ (c : Cell). c.event.0) (sym one) ∙ named in
-        let kept_second : IsCellOf links event second = subst (IsCellOf links event) one kept in
-        let is_not_first : eqb a event ≡ false = false_from_ne_true (eqb a event) (λ same. eqb-false a b fits.apart (eqb-true a event same ∙ sym is_b)) in
-        let is_second : eqb b event ≡ true = eq-eqb b event is_b in
-        let newest : second.newest ≡ cond (eqb a event) (Some (length links)) second.newest = sym (ap (λ t. cond t (Some (length links)) second.newest) is_not_first) in
-        let in_count : second.in_count + 1 ≡ second.in_count + cond (eqb b event) 1 0 = sym (ap (λ t. second.in_count + cond t 1 0) is_second) in
-        record { cell = counted second; at = new_second; named = second_named ∙ is_b; kept = IsCellOf-push links link event second (counted second) kept_second newest in_count (λ same. absurd (both_ways (eqb a event) is_not_first same)) }
+-- one more link
+pub AreLinked-push : (cells : Slab Cell) (links : List (Option Link)) (link : Link) (first second : Cell) (at : ℕ) → AreLinked cells links → AreEnds cells link.from link.to link.first.0 link.second.0 first second (Some at) → at ≡ length links → link.next ≡ first.newest → AreLinked (cells_with cells link.from link.to first second (Some at) (second.in_count + 1)) (links ++ Some link ∷ [])
+AreLinked-push cells links link first second at linked ends at_is next =
+    record {
+      one_cell = λ c d event in_c in_d. linked.one_cell c d event (sym (ap (λ slots. event_at slots c) change.slots) ∙ in_c) (sym (ap (λ slots. event_at slots d) change.slots) ∙ in_d);
+      chained = subst AreChainedIn (sym (reverse-append links (Some link ∷ []))) (next ∙ linked.newest link.from first ends.in_from ∙ ap (newest_of links) change.first_named, linked.chained);
+      leads = All-push (JoinsCells new) links (Some link) (λ k d below. JoinsCells-same cells new (get_or links k d) change.slots (linked.leads k d below)) (JoinsCells-same cells new (Some link) change.slots (record { from = ends.at_from; to = ends.at_to }));
+      newest = λ key cell in_new. change.at key cell in_new (λ c. c.newest ≡ newest_of (links ++ Some link ∷ []) c.event.0)
+          (ap Some at_is ∙ sym (newest_of-push links link first.event.0 ∙ ap (λ t. cond t (Some (length links)) (newest_of links first.event.0)) (eq-eqb link.first.0 first.event.0 (sym change.first_named))))
+          (linked.newest link.to second change.second_was ∙ sym (newest_of-push links link second.event.0 ∙ ap (λ t. cond t (Some (length links)) (newest_of links second.event.0)) (ap (eqb link.first.0) change.second_named ∙ ends.apart)))
+          (λ was in_was not_first not_second. linked.newest key was in_was ∙ sym (newest_of-push links link was.event.0 ∙ ap (λ t. cond t (Some (length links)) (newest_of links was.event.0)) not_first));
+      ins = λ key cell in_new. change.at key cell in_new (λ c. c.in_count ≡ ins_of (pairs_in (links ++ Some link ∷ [])) c.event.0)
+          (linked.ins link.from first ends.in_from ∙ sym (ins first.event.0 ∙ ap (λ t. ins_of (pairs_in links) first.event.0 + cond t 1 0) (ap (eqb link.second.0) change.first_named ∙ back) ∙ add-zero (ins_of (pairs_in links) first.event.0)))
+          (ap (λ n. n + 1) (linked.ins link.to second change.second_was) ∙ sym (ins second.event.0 ∙ ap (λ t. ins_of (pairs_in links) second.event.0 + cond t 1 0) (eq-eqb link.second.0 second.event.0 (sym change.second_named))))
+          (λ was in_was not_first not_second. linked.ins key was in_was ∙ sym (ins was.event.0 ∙ ap (λ t. ins_of (pairs_in links) was.event.0 + cond t 1 0) not_second ∙ add-zero (ins_of (pairs_in links) was.event.0)));
+    }
+  where
+    new : Slab Cell
+    new = cells_with cells link.from link.to first second (Some at) (second.in_count + 1)
 
-    -- the cell of another event
-    at_other : (key event : ℕ) (cell : Cell) → get cells key ≡ Some cell → cell.event.0 ≡ event → IsCellOf links event cell → (key ≡ from → ⊥) → (key ≡ link.to → ⊥) → IsKeptAt (links ++ link ∷ []) new key event
-    at_other key event cell in_cells named kept not_from not_to =
-        let no_first : eqb a event ≡ false = ap (eqb a) (sym named) ∙ other_event key from a cell in_cells of_from not_from in
-        let no_second : eqb b event ≡ false = ap (eqb b) (sym named) ∙ other_event key link.to b cell in_cells of_to not_to in
-        let newest : cell.newest ≡ cond (eqb a event) (Some (length links)) cell.newest = sym (ap (λ t. cond t (Some (length links)) cell.newest) no_first) in
-        let in_count : cell.in_count ≡ cell.in_count + cond (eqb b event) 1 0 = sym (ap (λ t. cell.in_count + cond t 1 0) no_second ∙ omega arith) in
-        record { cell = cell; at = new_other key not_from not_to ∙ in_cells; named = named; kept = IsCellOf-push links link event cell cell kept newest in_count (λ same. absurd (both_ways (eqb a event) no_first same)) }
+    change : AreChanged cells new link.from link.to link.first.0 link.second.0 first second (Some at) (second.in_count + 1)
+    change = changed cells links link.from link.to link.first.0 link.second.0 first second (Some at) (second.in_count + 1) linked ends
 
-    kept_after : (key event : ℕ) (cell : Cell) → get cells key ≡ Some cell → cell.event.0 ≡ event → IsCellOf links event cell → IsKeptAt (links ++ link ∷ []) new key event
-    kept_after key event cell in_cells named kept =
-        elim (cases_eq key from) [
-          | inl is_from ↦ subst (λ k. IsKeptAt (links ++ link ∷ []) new k event) (sym is_from) (at_first event cell (ap (get cells) (sym is_from) ∙ in_cells) named kept)
-          | inr not_from ↦ elim (cases_eq key link.to) [
-            | inl is_to ↦ subst (λ k. IsKeptAt (links ++ link ∷ []) new k event) (sym is_to) (at_second event cell (ap (get cells) (sym is_to) ∙ in_cells) named kept)
-            | inr not_to ↦ at_other key event cell in_cells named kept not_from not_to
-          ]
-        ]
+    back : eqb link.second.0 link.first.0 ≡ false
+    back = ne_eqb link.second.0 link.first.0 (λ same. eqb-false link.first.0 link.second.0 ends.apart (sym same))
 
-    -- each cell is the one of an event that it was
-    listed : (key : ℕ) (cell : Cell) → get new key ≡ Some cell → IsListed events keys key cell.event.0
-    listed key cell in_new =
-        elim (cases_eq key from) [
-          | inl is_from ↦
-              let one : started first at ≡ cell = same_Some (started first at) cell (sym new_first ∙ ap (get new) (sym is_from) ∙ in_new) in
-              subst (λ (c : Cell). IsListed events keys key c.event.0) one (sound.listed key first (ap (get cells) is_from ∙ first_is))
-          | inr not_from ↦ elim (cases_eq key link.to) [
-            | inl is_to ↦
-                let one : counted second ≡ cell = same_Some (counted second) cell (sym new_second ∙ ap (get new) (sym is_to) ∙ in_new) in
-                subst (λ (c : Cell). IsListed events keys key c.event.0) one (sound.listed key second (ap (get cells) is_to ∙ second_was))
-            | inr not_to ↦ sound.listed key cell (sym (new_other key not_from not_to) ∙ in_new)
-          ]
-        ]
+    ins : (event : ℕ) → ins_of (pairs_in (links ++ Some link ∷ [])) event ≡ ins_of (pairs_in links) event + cond (eqb link.second.0 event) 1 0
+    ins event = ap (λ pairs. ins_of pairs event) (pairs_in-push links link) ∙ ins_of-push (pairs_in links) link.first.0 link.second.0 event
+
+-- a link that was taken out
+pub AreLinked-drop : (cells : Slab Cell) (links : List (Option Link)) (link : Link) (first second : Cell) (at key : ℕ) → AreLinked cells links → AreEnds cells key link.to link.first.0 link.second.0 first second link.next → IsGap links at link → AreLinked (cells_with cells key link.to first second link.next (second.in_count - 1)) (set links at None)
+AreLinked-drop cells links link first second at key linked ends gap =
+    record {
+      one_cell = λ c d event in_c in_d. linked.one_cell c d event (sym (ap (λ slots. event_at slots c) change.slots) ∙ in_c) (sym (ap (λ slots. event_at slots d) change.slots) ∙ in_d);
+      chained = gap.chained;
+      leads = All-set (JoinsCells new) links at None tt (λ k d below. JoinsCells-same cells new (get_or links k d) change.slots (linked.leads k d below));
+      newest = λ key' cell in_new. change.at key' cell in_new (λ c. c.newest ≡ newest_of (set links at None) c.event.0)
+          (sym (ap (newest_of (set links at None)) change.first_named ∙ gap.same))
+          (linked.newest link.to second change.second_was ∙ sym (gap.others second.event.0 (ap (eqb link.first.0) change.second_named ∙ ends.apart)))
+          (λ was in_was not_first not_second. linked.newest key' was in_was ∙ sym (gap.others was.event.0 not_first));
+      ins = λ key' cell in_new. change.at key' cell in_new (λ c. c.in_count ≡ ins_of (pairs_in (set links at None)) c.event.0)
+          (linked.ins key first ends.in_from ∙ ins first.event.0 ∙ ap (λ t. ins_of (pairs_in (set links at None)) first.event.0 + cond t 1 0) (ap (eqb link.second.0) change.first_named ∙ back) ∙ add-zero (ins_of (pairs_in (set links at None)) first.event.0))
+          (one_less second.in_count (ins_of (pairs_in (set links at None)) second.event.0) (linked.ins link.to second change.second_was ∙ ins second.event.0 ∙ ap (λ t. ins_of (pairs_in (set links at None)) second.event.0 + cond t 1 0) (eq-eqb link.second.0 second.event.0 (sym change.second_named))))
+          (λ was in_was not_first not_second. linked.ins key' was in_was ∙ ins was.event.0 ∙ ap (λ t. ins_of (pairs_in (set links at None)) was.event.0 + cond t 1 0) not_second ∙ add-zero (ins_of (pairs_in (set links at None)) was.event.0));
+    }
+  where
+    new : Slab Cell
+    new = cells_with cells key link.to first second link.next (second.in_count - 1)
+
+    change : AreChanged cells new key link.to link.first.0 link.second.0 first second link.next (second.in_count - 1)
+    change = changed cells links key link.to link.first.0 link.second.0 first second link.next (second.in_count - 1) linked ends
+
+    back : eqb link.second.0 link.first.0 ≡ false
+    back = ne_eqb link.second.0 link.first.0 (λ same. eqb-false link.first.0 link.second.0 ends.apart (sym same))
+
+    ins : (event : ℕ) → ins_of (pairs_in links) event ≡ ins_of (pairs_in (set links at None)) event + cond (eqb link.second.0 event) 1 0
+    ins event =
+        ap (λ pairs. ins_of pairs event) gap.was ∙ ins-between gap.front gap.back link.first.0 link.second.0 event ∙ ap (λ pairs. ins_of pairs event + cond (eqb link.second.0 event) 1 0) (sym gap.is)
+
+    one_less : (n m : ℕ) → n ≡ m + 1 → n - 1 ≡ m
+    one_less n m is = omega (arith, is)
+
+-- the newest link of an event is there, and is one of the event
+pub record IsFound (links : List (Option Link)) (event at : ℕ) : Type 0 where
+  pub link : Link
+  pub below : at < length links
+  pub is : get_or links at None ≡ Some link
+  pub first : link.first.0 ≡ event
+
+-- with the newest first
+record IsFoundIn (newest : List (Option Link)) (event at : ℕ) : Type 0 where
+  link : Link
+  below : at < length newest
+  is : get_or newest (length newest - 1 - at) None ≡ Some link
+  first : link.first.0 ≡ event
+
+found_behind : (slot : Option Link) (older : List (Option Link)) (event at : ℕ) → IsFoundIn older event at → IsFoundIn (slot ∷ older) event at
+found_behind slot older event at found =
+    record { link = found.link; below = omega (arith, found.below); is = ap (λ k. get_or (slot ∷ older) k None) (further (length older) at found.below) ∙ found.is; first = found.first }
+  where
+    further : (n k : ℕ) → k < n → suc n - 1 - k ≡ suc (n - 1 - k)
+    further n k less = omega arith
+
+found_in : (newest : List (Option Link)) (event at : ℕ) → newest_in newest event ≡ Some at → IsFoundIn newest event at
+found_in [] event at is = absurd (none-some at is)
+found_in (None ∷ older) event at is = found_behind None older event at (found_in older event at is)
+found_in (Some link ∷ older) event at is = one (eqb link.first.0 event) refl is (found_in older event at)
+  where
+    one : (same : Bool) → eqb link.first.0 event ≡ same → cond same (Some (length older)) (newest_in older event) ≡ Some at → (newest_in older event ≡ Some at → IsFoundIn older event at) → IsFoundIn (Some link ∷ older) event at
+    one true first is rest =
+        let here : length older ≡ at = same_Some (length older) at is in
+        record { link = link; below = omega (arith, here); is = ap (λ k. get_or (Some link ∷ older) k None) (zeroth (length older) at here); first = eqb-true link.first.0 event first }
+      where
+        zeroth : (n k : ℕ) → n ≡ k → suc n - 1 - k ≡ 0
+        zeroth n k same = omega (arith, same)
+    one false first is rest = found_behind (Some link) older event at (rest is)
+
+pub found : (links : List (Option Link)) (event at : ℕ) → newest_of links event ≡ Some at → IsFound links event at
+found links event at is =
+    let in_newest = found_in (reverse links) event at is in
+    let size = length-reverse links in
+    let below : at < length links = omega (arith, in_newest.below, size) in
+    record { link = in_newest.link; below = below; is = ap (λ l. get_or l at None) (sym (reverse-reverse links)) ∙ get_or-reverse (reverse links) at None in_newest.below ∙ in_newest.is; first = in_newest.first }
+
+-- the second cell's count is that of the predecessors of its event, of which there are no more than pairs
+pub second_few : (cells : Slab Cell) (links : List (Option Link)) (from to a b : ℕ) (first second : Cell) (start : Option ℕ) → AreLinked cells links → AreEnds cells from to a b first second start → second.in_count ≤ length (pairs_in links)
+second_few cells links from to a b first second start linked ends =
+    let was = (changed cells links from to a b first second start 0 linked ends).second_was in
+    omega (arith, linked.ins to second was, count_by-le-length (λ (pair : ℕ × ℕ). eqb pair.1 second.event.0) (pairs_in links))

@@ -1,72 +1,69 @@
 -- What always holds of a graph.
-use Rattle.std.proofs.Common.{◌≡◌, ℕ, List, [], ◌∷◌, ◌++◌, length, get_or, sym, ap, ◌∙◌, subst, arith}
-use Rattle.std.specs.Prelude.{None, Some, map}
+use Rattle.std.proofs.Common.{◌≡◌, ℕ, ◌<◌, true, List, [], ◌∷◌, ◌++◌, length, get_or, sym, ap, ◌∙◌, subst, arith}
+use Rattle.std.specs.Prelude.{Option, None, Some, map}
+use Rattle.std.specs.List.{All}
 use Rattle.std.proofs.lemmas.Option.{same_Some}
 use Rattle.std.proofs.lemmas.List.{get_or-append-add}
 use Rattle.slab.specs.Slab.{Slab, get}
 use Rattle.dep_graph.specs.declared.outs.Link.{Link}
 use Rattle.dep_graph.specs.declared.graph.Cell.{Cell}
-use Rattle.dep_graph.specs.GraphView.{event_at, IsGraph}
-use Rattle.dep_graph.specs.Links.{pair_of, slot_of, slots_of, IsCellOf, IsListed, IsSound}
-use Rattle.dep_graph.proofs.HeldLemmas.{is_held-index, index_of-held, index_once}
+use Rattle.dep_graph.specs.Table.{AreRising, number_of}
+use Rattle.dep_graph.specs.GraphView.{event_at, is_held, IsGraph}
+use Rattle.dep_graph.specs.Links.{pairs_in, slot_of, slots_of, newest_of, JoinsCells, IsBetween, AreLinked, IsSound}
+use Rattle.dep_graph.proofs.HeldLemmas.{events_of, key_of, held_at, rising_events}
 use Rattle.dep_graph.proofs.CellLemmas.{Holds, holds, event_at-cell}
 
 -- what holds of every graph
-pub IsGraph-sound : (events keys : List ℕ) (cells : Slab Cell) (links : List Link) (spare_vertices spare_pairs : ℕ) → IsSound events keys cells links → IsGraph (record { vertices = events; pairs = map pair_of links; spare_vertices = spare_vertices; spare_pairs = spare_pairs; slots = slots_of cells })
-IsGraph-sound events keys cells links spare_vertices spare_pairs sound =
+pub IsGraph-sound : (keys : List (ℕ × ℕ)) (cells : Slab Cell) (links : List (Option Link)) (bare : List ℕ) (spare_vertices spare_pairs : ℕ) → AreRising keys → IsSound keys cells links bare → IsGraph (record { vertices = events_of keys; pairs = pairs_in links; bare = bare; spare_vertices = spare_vertices; spare_pairs = spare_pairs; slots = slots_of cells })
+IsGraph-sound keys cells links bare spare_vertices spare_pairs rising sound =
     record {
-      rising = sound.rising;
+      rising = rising_events keys rising;
       joined = sound.joined;
       distinct = sound.distinct;
       acyclic = sound.acyclic;
-      held = λ cell event is. is_held-index events (listed cell event is).at event (listed cell event is).below (listed cell event is).has_event;
+      bare = sound.bare;
+      held = λ cell event is. held_at keys event cell (sound.listed event cell is);
       placed = λ event held.
-          let index = index_of-held events event held in
-          let at = sound.each index.at index.below in
-          (get_or keys index.at 0, event_at-cell cells (get_or keys index.at 0) at.cell at.at ∙ ap Some (at.named ∙ index.is));
-      one_cell = λ c d event in_c in_d.
-          let of_c = listed c event in_c in
-          let of_d = listed d event in_d in
-          let same = index_once events of_c.at of_d.at sound.rising of_c.below of_d.below (of_c.has_event ∙ sym of_d.has_event) in
-          sym of_c.has_key ∙ ap (λ i. get_or keys i 0) same ∙ of_d.has_key;
+          let key = key_of keys event held in
+          (key.key, sound.placed event key.key key.is);
+      one_cell = λ c d event in_c in_d. same_Some c d (sym (sound.listed event c in_c) ∙ sound.listed event d in_d);
     }
-  where
-    listed : (cell event : ℕ) → event_at (slots_of cells) cell ≡ Some event → IsListed events keys cell event
-    listed cell event is =
-        let there = holds cells cell event is in
-        let at = sound.listed cell there.cell there.at in
-        record { at = at.at; below = at.below; has_key = at.has_key; has_event = at.has_event ∙ there.named }
+
+-- the cells stay linked where they keep their events, and what else is asked of them is so
+pub JoinsCells-same : (old new : Slab Cell) (slot : Option Link) → slots_of new ≡ slots_of old → JoinsCells old slot → JoinsCells new slot
+JoinsCells-same old new None same joins = tt
+JoinsCells-same old new (Some link) same joins =
+    record { from = ap (λ slots. event_at slots link.from) same ∙ joins.from; to = ap (λ slots. event_at slots link.to) same ∙ joins.to }
 
 -- more room changes nothing of a graph
-pub IsSound-room : (events keys : List ℕ) (old new : Slab Cell) (links : List Link) → IsSound events keys old links → new.slots ≡ old.slots → IsSound events keys new links
-IsSound-room events keys old new links sound same =
+pub IsSound-room : (keys : List (ℕ × ℕ)) (old new : Slab Cell) (links : List (Option Link)) (bare : List ℕ) → IsSound keys old links bare → new.slots ≡ old.slots → IsSound keys new links bare
+IsSound-room keys old new links bare sound same =
+    let slots : slots_of new ≡ slots_of old = ap (map slot_of) same in
+    let was : (key : ℕ) → get new key ≡ get old key = λ key. ap (λ slots. get_or slots key None) same in
     record {
-      rising = sound.rising;
       joined = sound.joined;
       distinct = sound.distinct;
       acyclic = sound.acyclic;
-      falling = sound.falling;
-      leads = λ k d below. ap (λ slots. event_at (map slot_of slots) (get_or links k d).to) same ∙ sound.leads k d below;
-      parallel = sound.parallel;
-      each = λ k below.
-          let was = sound.each k below in
-          record { cell = was.cell; at = ap (λ slots. get_or slots (get_or keys k 0) None) same ∙ was.at; named = was.named; kept = was.kept };
-      listed = λ key cell at. sound.listed key cell (ap (λ slots. get_or slots key None) (sym same) ∙ at);
+      bare = sound.bare;
+      linked = record {
+        one_cell = λ c d event in_c in_d. sound.linked.one_cell c d event (ap (λ slots. event_at slots c) (sym slots) ∙ in_c) (ap (λ slots. event_at slots d) (sym slots) ∙ in_d);
+        chained = sound.linked.chained;
+        leads = λ k d below. JoinsCells-same old new (get_or links k d) slots (sound.linked.leads k d below);
+        newest = λ key cell at. sound.linked.newest key cell (sym (was key) ∙ at);
+        ins = λ key cell at. sound.linked.ins key cell (sym (was key) ∙ at);
+      };
+      placed = λ event key is. ap (λ slots. event_at slots key) slots ∙ sound.placed event key is;
+      listed = λ event key is. sound.listed event key (ap (λ slots. event_at slots key) (sym slots) ∙ is);
     }
 
--- what the cell under a key keeps
-pub kept_at : (events keys : List ℕ) (cells : Slab Cell) (links : List Link) (key event : ℕ) (cell : Cell) → IsSound events keys cells links → get cells key ≡ Some cell → cell.event.0 ≡ event → IsCellOf links event cell
-kept_at events keys cells links key event cell sound at named =
-    let listed = sound.listed key cell at in
-    let there = sound.each listed.at listed.below in
-    let one : there.cell ≡ cell = same_Some there.cell cell (sym there.at ∙ ap (get cells) listed.has_key ∙ at) in
-    subst (λ (c : Cell). IsCellOf links event c) one (subst (λ e. IsCellOf links e there.cell) (listed.has_event ∙ named) there.kept)
+-- the bare events but the last
+pub IsSound-bare : (keys : List (ℕ × ℕ)) (cells : Slab Cell) (links : List (Option Link)) (old new : List ℕ) → IsSound keys cells links old → All (λ event. is_held (events_of keys) event ≡ true) new → IsSound keys cells links new
+IsSound-bare keys cells links old new sound bare =
+    record { joined = sound.joined; distinct = sound.distinct; acyclic = sound.acyclic; bare = bare; linked = sound.linked; placed = sound.placed; listed = sound.listed }
 
--- the event of a key that is listed
-pub named_at : (events keys : List ℕ) (cells : Slab Cell) (links : List Link) (key event : ℕ) → IsSound events keys cells links → IsListed events keys key event → Holds cells key event
-named_at events keys cells links key event sound at =
-    let there = sound.each at.at at.below in
-    record { cell = there.cell; at = ap (get cells) (sym at.has_key) ∙ there.at; named = there.named ∙ at.has_event }
+-- the cell of an event that has a key
+pub cell_at : (keys : List (ℕ × ℕ)) (cells : Slab Cell) (links : List (Option Link)) (bare : List ℕ) (event key : ℕ) → IsSound keys cells links bare → number_of keys event ≡ Some key → Holds cells key event
+cell_at keys cells links bare event key sound is = holds cells key event (sound.placed event key is)
 
 -- the element behind a list
 pub get_or-last : {X : Type 0} (xs : List X) (x : X) (k : ℕ) (d : X) → k ≡ length xs → get_or (xs ++ x ∷ []) k d ≡ x

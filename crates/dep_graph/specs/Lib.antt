@@ -1,2 +1,4 @@
+pub mod Table
+pub mod Places
 pub mod GraphView
 pub mod Links

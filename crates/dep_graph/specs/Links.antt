@@ -1,16 +1,22 @@
--- How a graph is kept: a cell and a link for each event and pair, by their index.
-use Rattle.std.specs.Prelude.{◌≡◌, ◌<◌, ℕ, ◌==◌, if◌then◌else◌, Option, None, Some, IfSome, List, [], ◌∷◌, length, map, reverse, slice_index_or}
+-- How a graph is kept: a cell for each event, and a link for each pair, by their index. A link that was taken out
+-- leaves its index empty.
+use Rattle.std.specs.Prelude.{◌≡◌, ◌<◌, ◌≤◌, ◌+◌, ℕ, true, false, ◌==◌, if◌then◌else◌, Option, None, Some, IfSome, List, [], ◌∷◌, ◌++◌, length, map, filter_map, reverse}
 use Rattle.std.specs.List.{All, AllPairs}
 use Rattle.std.specs.Option.{option_map}
 use Rattle.kr_order.specs.Order.{IsAcyclic}
 use Rattle.dep_graph.specs.declared.outs.Link.{Link}
 use Rattle.dep_graph.specs.declared.graph.Cell.{Cell}
 use Rattle.slab.specs.Slab.{Slab, get}
-use Rattle.dep_graph.specs.GraphView.{event_at, JoinsHeld, outs_of, ins_of}
+use Rattle.dep_graph.specs.Table.{number_of}
+use Rattle.dep_graph.specs.GraphView.{is_held, event_at, has_pair, outs_of, ins_of, pairs_without, JoinsHeld}
 
 -- the pair of a link
 abbrev pub pair_of : Link → ℕ × ℕ
 pair_of link = (link.first.0, link.second.0)
+
+-- the pairs of the links that were not taken out
+abbrev pub pairs_in : List (Option Link) → List (ℕ × ℕ)
+pairs_in links = filter_map (option_map pair_of) links
 
 -- where a link leads to: a cell, and its event
 abbrev pub out_of : Link → ℕ × ℕ
@@ -18,21 +24,37 @@ out_of link = (link.to, link.second.0)
 
 -- where the links lead to that follow one another from an index on, each with a smaller index than the one before
 -- it; the links stand with the newest first
-abbrev pub chain_in : List Link → Option ℕ → List (ℕ × ℕ)
+abbrev pub chain_in : List (Option Link) → Option ℕ → List (ℕ × ℕ)
 chain_in [] start = []
-chain_in (link ∷ older) None = []
-chain_in (link ∷ older) (Some at) = if at == length older then out_of link ∷ chain_in older link.next else chain_in older (Some at)
+chain_in (None ∷ older) start = chain_in older start
+chain_in (Some link ∷ older) None = []
+chain_in (Some link ∷ older) (Some at) =
+    if at == length older then out_of link ∷ chain_in older link.next else chain_in older (Some at)
 
-abbrev pub chain : List Link → Option ℕ → List (ℕ × ℕ)
+abbrev pub chain : List (Option Link) → Option ℕ → List (ℕ × ℕ)
 chain links start = chain_in (reverse links) start
+
+-- the index of the newest link of the event; the links stand with the newest first
+abbrev pub newest_in : List (Option Link) → ℕ → Option ℕ
+newest_in [] event = None
+newest_in (None ∷ older) event = newest_in older event
+newest_in (Some link ∷ older) event = if link.first.0 == event then Some (length older) else newest_in older event
+
+abbrev pub newest_of : List (Option Link) → ℕ → Option ℕ
+newest_of links event = newest_in (reverse links) event
+
+-- each link leads on to the next older one of its first event; the links stand with the newest first
+abbrev pub AreChainedIn : List (Option Link) → Type 0
+AreChainedIn [] = Unit {0}
+AreChainedIn (None ∷ older) = AreChainedIn older
+AreChainedIn (Some link ∷ older) = (link.next ≡ newest_in older link.first.0) × AreChainedIn older
+
+abbrev pub AreChained : List (Option Link) → Type 0
+AreChained links = AreChainedIn (reverse links)
 
 -- the index is below a number, if there is one
 abbrev pub IsBelow : ℕ → Option ℕ → Type 0
 IsBelow n index = IfSome index (λ i. i < n)
-
--- each link leads on to one with a smaller index
-abbrev pub AreFalling : List Link → Type 0
-AreFalling links = (k : ℕ) (d : Link) → k < length links → IsBelow k (slice_index_or links k d).next
 
 -- the event of a cell, if there is one
 abbrev pub slot_of : Option Cell → Option ℕ
@@ -42,38 +64,53 @@ slot_of slot = option_map (λ cell. cell.event.0) slot
 abbrev pub slots_of : Slab Cell → List (Option ℕ)
 slots_of cells = map slot_of cells.slots
 
--- the cell is of the event: its chain has the event's successors, and its count that of its predecessors
-pub record IsCellOf (links : List Link) (event : ℕ) (cell : Cell) : Type 0 where
-  pub start : IsBelow (length links) cell.newest
-  pub outs : map (λ out. out.1) (chain links cell.newest) ≡ outs_of (map pair_of links) event
-  pub ins : cell.in_count ≡ ins_of (map pair_of links) event
+-- the link's cells are those of its events
+pub record IsBetween (cells : Slab Cell) (link : Link) : Type 0 where
+  pub from : event_at (slots_of cells) link.from ≡ Some link.first.0
+  pub to : event_at (slots_of cells) link.to ≡ Some link.second.0
 
--- there is a cell of the event under the key
-pub record IsKeptAt (links : List Link) (cells : Slab Cell) (key event : ℕ) : Type 0 where
-  pub cell : Cell
-  pub at : get cells key ≡ Some cell
-  pub named : cell.event.0 ≡ event
-  pub kept : IsCellOf links event cell
+-- so it is, if there is a link
+abbrev pub JoinsCells : Slab Cell → Option Link → Type 0
+JoinsCells cells None = Unit {0}
+JoinsCells cells (Some link) = IsBetween cells link
 
--- the key stands at the event's index
-pub record IsListed (events keys : List ℕ) (key event : ℕ) : Type 0 where
-  pub at : ℕ
-  pub below : at < length events
-  pub has_key : slice_index_or keys at 0 ≡ key
-  pub has_event : slice_index_or events at 0 ≡ event
+-- the links lead on and join cells, and each cell has the newest link of its event and the count of its predecessors
+pub record AreLinked (cells : Slab Cell) (links : List (Option Link)) : Type 0 where
+  pub one_cell : (c d event : ℕ) → event_at (slots_of cells) c ≡ Some event → event_at (slots_of cells) d ≡ Some event → c ≡ d
+  pub chained : AreChained links
+  pub leads : All (JoinsCells cells) links
+  pub newest : (key : ℕ) (cell : Cell) → get cells key ≡ Some cell → cell.newest ≡ newest_of links cell.event.0
+  pub ins : (key : ℕ) (cell : Cell) → get cells key ≡ Some cell → cell.in_count ≡ ins_of (pairs_in links) cell.event.0
 
--- the link's cell is that of its second event
-abbrev pub LeadsRight : Slab Cell → Link → Type 0
-LeadsRight cells link = event_at (slots_of cells) link.to ≡ Some link.second.0
+-- the events with the keys of their cells, the cells, the links and the bare events of a graph
+pub record IsSound (keys : List (ℕ × ℕ)) (cells : Slab Cell) (links : List (Option Link)) (bares : List ℕ) : Type 0 where
+  pub joined : All (JoinsHeld (map (λ entry. entry.0) keys)) (pairs_in links)
+  pub distinct : AllPairs (λ p q. p ≡ q → ⊥) (pairs_in links)
+  pub acyclic : IsAcyclic (pairs_in links)
+  pub bare : All (λ event. is_held (map (λ entry. entry.0) keys) event ≡ true) bares
+  pub linked : AreLinked cells links
+  pub placed : (event key : ℕ) → number_of keys event ≡ Some key → event_at (slots_of cells) key ≡ Some event
+  pub listed : (event key : ℕ) → event_at (slots_of cells) key ≡ Some event → number_of keys event ≡ Some key
 
--- the events, the keys of their cells, the cells and the links of a graph
-pub record IsSound (events keys : List ℕ) (cells : Slab Cell) (links : List Link) : Type 0 where
-  pub rising : AllPairs (λ a b. a < b) events
-  pub joined : All (JoinsHeld events) (map pair_of links)
-  pub distinct : AllPairs (λ p q. p ≡ q → ⊥) (map pair_of links)
-  pub acyclic : IsAcyclic (map pair_of links)
-  pub falling : AreFalling links
-  pub leads : All (LeadsRight cells) links
-  pub parallel : length keys ≡ length events
-  pub each : (k : ℕ) → k < length events → IsKeptAt links cells (slice_index_or keys k 0) (slice_index_or events k 0)
-  pub listed : (key : ℕ) (cell : Cell) → get cells key ≡ Some cell → IsListed events keys key cell.event.0
+-- the count of pairs is right, and each pair may make one more event bare without memory
+pub record HasRoom (links : List (Option Link)) (bare : List ℕ) (count bare_capacity : ℕ) : Type 0 where
+  pub counted : count ≡ length (pairs_in links)
+  pub room : count + length bare ≤ bare_capacity
+
+-- the pair from the event to the second was taken out: it was the newest of the event
+pub record IsTakenOut (event second : ℕ) (old new : List (ℕ × ℕ)) : Type 0 where
+  pub front : List (ℕ × ℕ)
+  pub back : List (ℕ × ℕ)
+  pub was : old ≡ front ++ (event, second) ∷ back
+  pub is : new ≡ front ++ back
+  pub outs : outs_of old event ≡ second ∷ outs_of new event
+
+-- the newest pair of the event was taken out, and its second made bare if it has no predecessor left
+pub record IsDropped (event : ℕ) (old_pairs pairs : List (ℕ × ℕ)) (old_bare bared : List ℕ) : Type 0 where
+  pub second : ℕ
+  pub outs : outs_of old_pairs event ≡ second ∷ outs_of pairs event
+  pub others : pairs_without pairs event ≡ pairs_without old_pairs event
+  pub ins : ins_of pairs event ≡ ins_of old_pairs event
+  pub gone : has_pair pairs event second ≡ false
+  pub bare : bared ≡ old_bare ++ (if ins_of pairs second == 0 then second ∷ [] else [])
+  pub fewer : length pairs + 1 ≡ length old_pairs

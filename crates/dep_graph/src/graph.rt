@@ -1,10 +1,13 @@
-//! The graph: its events in rising order, and for each its count of predecessors and its successors.
+//! The graph: its events, and for each its count of predecessors and its successors.
 
-ghost use Rattle.std.specs.Prelude.{◌≡◌, ◌<◌, ◌≤◌, ◌+◌, ℕ, [], ◌∷◌, ◌++◌, length, map, true, false, is_some, IsSome, IfSome, OnOk, Some, slice_get};
-ghost use Rattle.std.specs.List.{All, AllPairs};
-ghost use Rattle.dep_graph.specs.GraphView.{is_held, event_at, outs_of, ins_of, CanAdd, IsGraph};
-ghost use Rattle.dep_graph.specs.Links.{IsListed};
+ghost use Rattle.std.specs.Prelude.{◌≡◌, ◌<◌, ◌≤◌, ◌+◌, ◌==◌, ℕ, [], ◌∷◌, ◌++◌, length, map, true, false, is_some, IsSome, IfSome, IfNone, OnOk, Some, vec_capacity};
+ghost use Rattle.std.specs.List.{All};
+ghost use Rattle.slab.specs.Slab.{Slab as Cells};
+ghost use Rattle.dep_graph.specs.GraphView.{is_held, event_at, outs_of, ins_of, without, pairs_without, bared_by, CanAdd, IsGraph};
+ghost use Rattle.dep_graph.specs.Links.{IsDropped};
 
+use crate::EventTable;
+use crate::links::{rebuild, unlink};
 use crate::outs::{Link, Outs};
 use kr_order::{EventId, NoMemory};
 use slab::Slab;
@@ -24,13 +27,15 @@ pub(crate) struct Cell {
 /// The graph of events.
 #[derive(Debug, Drop)]
 pub struct Graph {
-    // the held events, the smallest first
-    events: Vec<u64>,
-    // by the same index, the key of the event's cell
-    keys: Vec<usize>,
+    // the key of each held event's cell
+    keys: EventTable,
     cells: Slab<Cell>,
-    // the pairs, the oldest first
-    links: Vec<Link>,
+    // the pairs, the oldest first, with `None` where one was taken out
+    links: Vec<Option<Link>>,
+    // how many pairs there are
+    count: usize,
+    // the bare events; there is room for one more for each pair
+    bare: Vec<u64>,
 }
 
 impl Model for Graph {
@@ -38,44 +43,20 @@ impl Model for Graph {
     ghost use Rattle.std.specs.Vec.{vec_capacity};
     ghost use Rattle.dep_graph.specs.GraphView.{GraphView};
     ghost use Rattle.slab.specs.Slab.{slab_len};
-    ghost use Rattle.dep_graph.specs.Links.{pair_of, slots_of, IsSound};
+    ghost use Rattle.dep_graph.specs.Links.{pairs_in, slots_of, IsSound, HasRoom};
 
     ghost Value = { GraphView };
 
     ghost view = { λ g. record {
-      vertices = g.events.items;
-      pairs = map pair_of g.links.items;
-      spare_vertices = min (min (vec_capacity g.events - vec_len g.events) (vec_capacity g.keys - vec_len g.keys)) (g.cells.capacity - slab_len g.cells);
-      spare_pairs = vec_capacity g.links - vec_len g.links;
+      vertices = map (λ entry. entry.0) g.keys.entries;
+      pairs = pairs_in g.links.items;
+      bare = g.bare.items;
+      spare_vertices = min g.keys.spare (g.cells.capacity - slab_len g.cells);
+      spare_pairs = min (vec_capacity g.links - vec_len g.links) (vec_capacity g.bare - vec_len g.bare - g.count);
       slots = slots_of g.cells;
     } };
 
-    ghost invariant = { λ g. IsSound g.events.items g.keys.items g.cells g.links.items };
-}
-
-// The index of the event among events that rise; `None` where it is none of them.
-fn position(events: &[u64], event: u64) -> Option<usize>
-    requires { AllPairs (λ a b. a < b) events.now }
-    ensures found { IfSome result (λ i. slice_get events.now i ≡ Some event) }
-    ensures held { is_some result ≡ is_held events.now event }
-{
-    match events.binary_search(&event) {
-        Ok(i) => Some(i),
-        Err(_) => None,
-    }
-}
-
-// The key of the event's cell; `None` where the event is not held.
-fn key_of(events: &[u64], keys: &[usize], event: u64) -> Option<usize>
-    requires rising { AllPairs (λ a b. a < b) events.now }
-    requires parallel { length keys.now ≡ length events.now }
-    ensures found { IfSome result (λ key. IsListed events.now keys.now key event) }
-    ensures held { is_some result ≡ is_held events.now event }
-{
-    match position(events, event) {
-        Some(i) => Some(keys[i]),
-        None => None,
-    }
+    ghost invariant = { λ g. IsSound g.keys.entries g.cells g.links.items g.bare.items × HasRoom g.links.items g.bare.items g.count (vec_capacity g.bare) };
 }
 
 impl Graph {
@@ -83,14 +64,66 @@ impl Graph {
     pub fn new(alloc: Global) -> Self
         ensures vertices { result.vertices ≡ [] }
         ensures pairs { result.pairs ≡ [] }
+        ensures bare { result.bare ≡ [] }
         ensures slots { result.slots ≡ [] }
     {
         Graph {
-            events: Vec::new(alloc),
-            keys: Vec::new(alloc),
+            keys: EventTable::new(alloc),
             cells: Slab::new(alloc),
             links: Vec::new(alloc),
+            count: 0,
+            bare: Vec::new(alloc),
         }
+    }
+
+    // Closes up the links.
+    fn close(&mut self) -> Result<(), NoMemory>
+        ensures vertices { self.new.vertices ≡ self.old.vertices }
+        ensures pairs { self.new.pairs ≡ self.old.pairs }
+        ensures bare { self.new.bare ≡ self.old.bare }
+        ensures slots { self.new.slots ≡ self.old.slots }
+        ensures spare_vertices { self.new.spare_vertices ≡ self.old.spare_vertices }
+        ensures spare_pairs { self.old.spare_pairs ≤ self.new.spare_pairs }
+    {
+        let alloc = *self.links.allocator();
+        let mut links = Vec::with_capacity(alloc, self.links.capacity())?;
+        rebuild(&mut self.cells, self.links.as_slice(), &mut links);
+        self.links = links;
+        Ok(())
+    }
+
+    // Makes room for so many more events.
+    fn reserve_vertices(&mut self, n: usize) -> Result<(), NoMemory>
+        ensures spare_vertices { OnOk result (n ≤ self.new.spare_vertices) }
+        ensures keeps_spare_vertices { self.old.spare_vertices ≤ self.new.spare_vertices }
+        ensures spare_pairs { self.new.spare_pairs ≡ self.old.spare_pairs }
+        ensures vertices { self.new.vertices ≡ self.old.vertices }
+        ensures pairs { self.new.pairs ≡ self.old.pairs }
+        ensures bare { self.new.bare ≡ self.old.bare }
+        ensures slots { self.new.slots ≡ self.old.slots }
+    {
+        self.keys.reserve(n)?;
+        self.cells.reserve(n)?;
+        Ok(())
+    }
+
+    // Makes room for so many more pairs, and for each pair that there will be for an event that it makes bare.
+    fn reserve_pairs(&mut self, n: usize) -> Result<(), NoMemory>
+        ensures spare_pairs { OnOk result (n ≤ self.new.spare_pairs) }
+        ensures keeps_spare_pairs { self.old.spare_pairs ≤ self.new.spare_pairs }
+        ensures spare_vertices { self.new.spare_vertices ≡ self.old.spare_vertices }
+        ensures vertices { self.new.vertices ≡ self.old.vertices }
+        ensures pairs { self.new.pairs ≡ self.old.pairs }
+        ensures bare { self.new.bare ≡ self.old.bare }
+        ensures slots { self.new.slots ≡ self.old.slots }
+    {
+        let all = match self.count.checked_add(n) {
+            Some(all) => all,
+            None => return Err(NoMemory),
+        };
+        self.bare.reserve(all)?;
+        self.links.reserve(n)?;
+        Ok(())
     }
 
     /// Makes room for so many more events and pairs.
@@ -101,13 +134,14 @@ impl Graph {
         ensures keeps_spare_pairs { self.old.spare_pairs ≤ self.new.spare_pairs }
         ensures vertices { self.new.vertices ≡ self.old.vertices }
         ensures pairs { self.new.pairs ≡ self.old.pairs }
+        ensures bare { self.new.bare ≡ self.old.bare }
         ensures slots { self.new.slots ≡ self.old.slots }
     {
-        self.events.reserve(vertices)?;
-        self.keys.reserve(vertices)?;
-        self.cells.reserve(vertices)?;
-        self.links.reserve(pairs)?;
-        Ok(())
+        if self.count < self.links.len() / 2 {
+            self.close()?;
+        }
+        self.reserve_vertices(vertices)?;
+        self.reserve_pairs(pairs)
     }
 
     /// Takes in an event, with no pair. It takes no memory.
@@ -116,6 +150,8 @@ impl Graph {
         requires room { 1 ≤ self.old.spare_vertices }
         ensures vertices { self.new.vertices ≡ self.old.vertices ++ id.0 ∷ [] }
         ensures pairs { self.new.pairs ≡ self.old.pairs }
+        ensures bare { self.new.bare ≡ self.old.bare }
+        ensures cells { (cell event : ℕ) → event_at self.old.slots cell ≡ Some event → event_at self.new.slots cell ≡ Some event }
         ensures spare_vertices { self.old.spare_vertices ≤ self.new.spare_vertices + 1 }
         ensures spare_pairs { self.new.spare_pairs ≡ self.old.spare_pairs }
     {
@@ -124,8 +160,7 @@ impl Graph {
             in_count: 0,
             newest: None,
         });
-        self.events.push_reserved(id.0);
-        self.keys.push_reserved(key);
+        self.keys.push(id.0, key as u64);
     }
 
     /// Puts `a` before `b` by a pair. It takes no memory.
@@ -134,21 +169,117 @@ impl Graph {
         requires room { 1 ≤ self.old.spare_pairs }
         ensures pairs { self.new.pairs ≡ self.old.pairs ++ (a.0, b.0) ∷ [] }
         ensures vertices { self.new.vertices ≡ self.old.vertices }
+        ensures bare { self.new.bare ≡ self.old.bare }
         ensures slots { self.new.slots ≡ self.old.slots }
         ensures spare_pairs { self.old.spare_pairs ≤ self.new.spare_pairs + 1 }
         ensures spare_vertices { self.new.spare_vertices ≡ self.old.spare_vertices }
     {
-        let from = key_of(self.events.as_slice(), self.keys.as_slice(), a.0).unwrap();
-        let to = key_of(self.events.as_slice(), self.keys.as_slice(), b.0).unwrap();
+        let from = self.cell_of(a).unwrap();
+        let to = self.cell_of(b).unwrap();
         let at = self.links.len();
-        self.links.push_reserved(Link {
+        self.links.push_reserved(Some(Link {
             first: a,
             second: b,
+            from,
             to,
             next: self.cells[from].newest,
-        });
+        }));
+        self.count += 1;
         self.cells[from].newest = Some(at);
         self.cells[to].in_count += 1;
+    }
+
+    // Takes out the newest pair of the event, whose cell is given. Whether it had one.
+    fn drop_pair(&mut self, id: EventId, key: usize) -> bool
+        requires { event_at self.old.slots key ≡ Some id.0 }
+        ensures some { result ≡ true → IsDropped id.0 self.old.pairs self.new.pairs self.old.bare self.new.bare }
+        ensures none { result ≡ false → outs_of self.old.pairs id.0 ≡ [] }
+        ensures same { result ≡ false → self.new ≡ self.old }
+        ensures vertices { self.new.vertices ≡ self.old.vertices }
+        ensures slots { self.new.slots ≡ self.old.slots }
+        ensures spare_vertices { self.new.spare_vertices ≡ self.old.spare_vertices }
+        ensures spare_pairs { self.old.spare_pairs ≤ self.new.spare_pairs }
+    {
+        let link = match unlink(&mut self.cells, &mut self.links, key) {
+            Some(link) => link,
+            None => return false,
+        };
+        self.count -= 1;
+        if self.cells[link.to].in_count == 0 {
+            self.bare.push_reserved(link.second.0);
+        }
+        true
+    }
+
+    // Takes out all pairs of the event, whose cell is given.
+    fn drop_pairs(&mut self, id: EventId, key: usize)
+        requires { event_at self.old.slots key ≡ Some id.0 }
+        ensures pairs { self.new.pairs ≡ pairs_without self.old.pairs id.0 }
+        ensures none { outs_of self.new.pairs id.0 ≡ [] }
+        ensures ins { ins_of self.new.pairs id.0 ≡ ins_of self.old.pairs id.0 }
+        ensures bare { self.new.bare ≡ self.old.bare ++ bared_by self.old.pairs id.0 }
+        ensures vertices { self.new.vertices ≡ self.old.vertices }
+        ensures slots { self.new.slots ≡ self.old.slots }
+        ensures spare_vertices { self.new.spare_vertices ≡ self.old.spare_vertices }
+        ensures spare_pairs { self.old.spare_pairs ≤ self.new.spare_pairs }
+    {
+        let mut dropped = true;
+        while dropped {
+            dropped = self.drop_pair(id, key);
+        }
+    }
+
+    // Takes out an event that has no pair, whose cell is given.
+    fn remove_vertex(&mut self, id: EventId, key: usize)
+        requires cell { event_at self.old.slots key ≡ Some id.0 }
+        requires outs { outs_of self.old.pairs id.0 ≡ [] }
+        requires ins { ins_of self.old.pairs id.0 ≡ 0 }
+        requires apart { is_held self.old.bare id.0 ≡ false }
+        ensures vertices { self.new.vertices ≡ without self.old.vertices id.0 }
+        ensures pairs { self.new.pairs ≡ self.old.pairs }
+        ensures bare { self.new.bare ≡ self.old.bare }
+        ensures slots { length self.new.slots ≡ length self.old.slots }
+        ensures spare_vertices { self.old.spare_vertices ≤ self.new.spare_vertices }
+        ensures spare_pairs { self.new.spare_pairs ≡ self.old.spare_pairs }
+    {
+        self.cells.remove(key);
+        self.keys.remove(id.0);
+    }
+
+    /// Takes out an event that has no predecessor, with its pairs. Each successor that it leaves without a
+    /// predecessor is put behind the bare events. It takes no memory.
+    pub fn remove_source(&mut self, id: EventId)
+        requires held { is_held self.old.vertices id.0 ≡ true }
+        requires source { ins_of self.old.pairs id.0 ≡ 0 }
+        requires apart { is_held self.old.bare id.0 ≡ false }
+        ensures vertices { self.new.vertices ≡ without self.old.vertices id.0 }
+        ensures pairs { self.new.pairs ≡ pairs_without self.old.pairs id.0 }
+        ensures bare { self.new.bare ≡ self.old.bare ++ bared_by self.old.pairs id.0 }
+        ensures slots { length self.new.slots ≡ length self.old.slots }
+        ensures spare_vertices { self.old.spare_vertices ≤ self.new.spare_vertices }
+        ensures spare_pairs { self.old.spare_pairs ≤ self.new.spare_pairs }
+    {
+        self.known();
+        let key = self.cell_of(id).unwrap();
+        self.drop_pairs(id, key);
+        self.remove_vertex(id, key);
+    }
+
+    /// The last bare event, which then is none; `None` where there is none. It takes no memory.
+    pub fn take_bare(&mut self) -> Option<EventId>
+        ensures some { IfSome result (λ id. self.old.bare ≡ self.new.bare ++ id.0 ∷ []) }
+        ensures none { IfNone result (self.old.bare ≡ []) }
+        ensures same { IfNone result (self.new ≡ self.old) }
+        ensures vertices { self.new.vertices ≡ self.old.vertices }
+        ensures pairs { self.new.pairs ≡ self.old.pairs }
+        ensures slots { self.new.slots ≡ self.old.slots }
+        ensures spare_vertices { self.new.spare_vertices ≡ self.old.spare_vertices }
+        ensures spare_pairs { self.old.spare_pairs ≤ self.new.spare_pairs }
+    {
+        match self.bare.pop() {
+            Some(event) => Some(EventId(event)),
+            None => None,
+        }
     }
 
     /// The cell of the event; `None` where it is not held.
@@ -156,7 +287,10 @@ impl Graph {
         ensures found { IfSome result (λ cell. event_at self.now.slots cell ≡ Some id.0) }
         ensures held { is_some result ≡ is_held self.now.vertices id.0 }
     {
-        key_of(self.events.as_slice(), self.keys.as_slice(), id.0)
+        match self.keys.get(id.0) {
+            Some(key) => Some(key as usize),
+            None => None,
+        }
     }
 
     /// Whether the event is held.
@@ -171,7 +305,7 @@ impl Graph {
         requires { is_held self.now.vertices id.0 ≡ true }
         ensures { result ≡ ins_of self.now.pairs id.0 }
     {
-        let key = key_of(self.events.as_slice(), self.keys.as_slice(), id.0).unwrap();
+        let key = self.cell_of(id).unwrap();
         self.cells[key].in_count
     }
 
@@ -198,14 +332,14 @@ impl Graph {
     pub fn held(&self) -> u64
         ensures { result ≡ length self.now.vertices }
     {
-        self.events.len() as u64
+        self.keys.len() as u64
     }
 
     /// How many pairs are held.
     pub fn pairs_held(&self) -> u64
         ensures { result ≡ length self.now.pairs }
     {
-        self.links.len() as u64
+        self.count as u64
     }
 
     /// A number that all cells are below.
@@ -219,6 +353,6 @@ impl Graph {
     pub fn known(&self)
         ensures { IsGraph self.now }
     {
-        let _ = &self.links;
+        self.keys.known();
     }
 }

@@ -4,7 +4,7 @@
 
 ghost use Rattle.std.specs.Prelude.{◌≡◌, length};
 ghost use Rattle.std.specs.Iterator.{YieldsFirstBy, item_count};
-ghost use Rattle.dep_graph.specs.Links.{chain, IsBelow, AreFalling};
+ghost use Rattle.dep_graph.specs.Links.{chain, IsBelow, AreChained};
 
 use kr_order::EventId;
 use std::marker::Model;
@@ -16,11 +16,12 @@ pub struct Successor {
     pub event: EventId,
 }
 
-// A pair, with the index of the cell of its second event, and that of the next older pair of its first.
+// A pair, with the indices of the cells of its events, and that of the next older pair of its first.
 #[derive(Clone, Copy, Debug)]
 pub(crate) struct Link {
     pub first: EventId,
     pub second: EventId,
+    pub from: usize,
     pub to: usize,
     pub next: Option<usize>,
 }
@@ -28,25 +29,25 @@ pub(crate) struct Link {
 /// The successors of an event that are left, from the newest pair to the oldest.
 #[derive(Drop)]
 pub struct Outs<'a> {
-    links: &'a [Link],
+    links: &'a [Option<Link>],
     next: Option<usize>,
 }
 
 impl<'a> Model for Outs<'a> {
     ghost use Rattle.std.specs.Prelude.{ℕ, List, length};
-    ghost use Rattle.dep_graph.specs.Links.{chain, IsBelow, AreFalling};
+    ghost use Rattle.dep_graph.specs.Links.{chain, IsBelow, AreChained};
 
     ghost Value = { List (ℕ × ℕ) };
 
     ghost view = { λ outs. chain outs.links.now outs.next };
 
-    ghost invariant = { λ outs. AreFalling outs.links.now × IsBelow (length outs.links.now) outs.next };
+    ghost invariant = { λ outs. AreChained outs.links.now × IsBelow (length outs.links.now) outs.next };
 }
 
 impl<'a> Outs<'a> {
     // What the links lead to that follow one another from an index on.
-    pub(crate) fn new(links: &'a [Link], next: Option<usize>) -> Self
-        requires falling { AreFalling links.now }
+    pub(crate) fn new(links: &'a [Option<Link>], next: Option<usize>) -> Self
+        requires chained { AreChained links.now }
         requires below { IsBelow (length links.now) next }
         ensures { result ≡ chain links.now next }
     {
@@ -62,9 +63,12 @@ impl<'a> Iterator for Outs<'a> {
     ghost remaining = { item_count (λ rest. rest) };
 
     fn next(&mut self) -> Option<Successor> {
-        match self.next {
-            Some(at) => {
-                let link = self.links[at];
+        let at = match self.next {
+            Some(at) => at,
+            None => return None,
+        };
+        match self.links[at] {
+            Some(link) => {
                 self.next = link.next;
                 Some(Successor {
                     cell: link.to,

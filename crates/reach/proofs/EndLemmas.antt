@@ -8,10 +8,11 @@ use Rattle.std.proofs.lemmas.List.{get_or-append-add, length-map, length-reverse
 use Rattle.std.proofs.lemmas.List.Elements.{All-append, recursion_from_All}
 use Rattle.std.proofs.lemmas.List.Sums.{sum_by-cons}
 use Rattle.std.proofs.lemmas.Map.Made.{length-le_from_is_member}
-use Rattle.kr_order.specs.Front.{IsFrontOf}
-use Rattle.kr_order.specs.Order.{leads, reach}
-use Rattle.kr_order.proofs.FrontLemmas.{IsFrontOf-append, IsFrontOf-length, IsFrontOf-map, IsFrontOf-trans, take_front}
-use Rattle.kr_order.proofs.OrderLemmas.{reach_more, reach_pair}
+use Rattle.kr_order.specs.Prefix.{IsPrefix}
+use Rattle.kr_order.specs.Order.{reach}
+use Rattle.kr_order.proofs.PrefixLemmas.{IsPrefix-append, IsPrefix-length, IsPrefix-map, IsPrefix-trans, take_front}
+use Rattle.kr_order.proofs.PathLemmas.{leads}
+use Rattle.kr_order.proofs.OrderLemmas.{reach-path, reach_more, reach_pair}
 use Rattle.dep_graph.specs.GraphView.{GraphView, IsGraph, is_held, event_at, outs_of}
 use Rattle.reach.specs.Finds.{is_in}
 use Rattle.reach.specs.Walk.{event_of, events_of, ArePlaced, AreFrom, AreSaid, LeadsTo, Meets, IsFoundBefore, IsFollowed, AreFollowed, steps_of}
@@ -47,10 +48,10 @@ found_along (pair ∷ older) goal found all x y there path =
 -- a search that has followed all pairs without the goal
 pub never_reached : (order : List (ℕ × ℕ)) (a goal : ℕ) (found : List ℕ) → AreFollowed order goal found found → is_in found a ≡ true → reach order a goal ≡ false
 never_reached order a goal found followed there =
-    false_from_ne_true (reach order a goal) (λ path. both_ways (eqb goal goal) (found_along (reverse order) goal found (recursion_from_All (IsFollowed goal found found) (reverse order) (All-reverse (IsFollowed goal found found) order followed)) a goal there path).other (eq-eqb goal goal refl))
+    false_from_ne_true (reach order a goal) (λ path. both_ways (eqb goal goal) (found_along (reverse order) goal found (recursion_from_All (IsFollowed goal found found) (reverse order) (All-reverse (IsFollowed goal found found) order followed)) a goal there (reach-path order a goal path)).other (eq-eqb goal goal refl))
 
 -- pairs that were followed stay so where more is found
-pub AreFollowed-more : (pairs : List (ℕ × ℕ)) (goal : ℕ) (taken found new : List ℕ) → IsFrontOf found new → AreFollowed pairs goal taken found → AreFollowed pairs goal taken new
+pub AreFollowed-more : (pairs : List (ℕ × ℕ)) (goal : ℕ) (taken found new : List ℕ) → IsPrefix found new → AreFollowed pairs goal taken found → AreFollowed pairs goal taken new
 AreFollowed-more pairs goal taken found new front followed k d below =
     record {
       on = λ is.
@@ -126,7 +127,7 @@ pub record IsUnderWay (graph : GraphView) (extra : List (ℕ × ℕ)) (a goal : 
 
 -- the pairs in front and those behind them are said by all of them
 said_front : (pairs extra : List (ℕ × ℕ)) → AreSaid (pairs ++ extra) pairs
-said_front pairs extra k d below = reach_more pairs (pairs ++ extra) (get_or pairs k d).0 (get_or pairs k d).1 (IsFrontOf-append pairs extra) (reach_pair pairs k d below)
+said_front pairs extra k d below = reach_more pairs (pairs ++ extra) (get_or pairs k d).0 (get_or pairs k d).1 (IsPrefix-append pairs extra) (reach_pair pairs k d below)
 
 said_behind : (pairs extra : List (ℕ × ℕ)) → AreSaid (pairs ++ extra) extra
 said_behind pairs extra k d below =
@@ -157,14 +158,14 @@ IsUnderWay-first graph extra a goal cell at =
         ]
 
 -- it goes on with what both kinds of pairs lead to
-pub IsUnderWay-more : (graph : GraphView) (extra : List (ℕ × ℕ)) (a goal : ℕ) (cells mid new : List ℕ) (i n : ℕ) → IsUnderWay graph extra a goal cells i → LeadsTo graph.pairs (events_of graph.slots cells) (events_of graph.slots mid) → AreFollowed graph.pairs goal (events_of graph.slots mid) (events_of graph.slots mid) → IsFrontOf cells mid → LeadsTo extra (events_of graph.slots mid) (events_of graph.slots new) → (length new ≡ length mid → AreFollowed extra goal (events_of graph.slots new) (events_of graph.slots new)) → IsFrontOf mid new → ArePlaced graph.slots new → n ≡ length mid → IsUnderWay graph extra a goal new n
+pub IsUnderWay-more : (graph : GraphView) (extra : List (ℕ × ℕ)) (a goal : ℕ) (cells mid new : List ℕ) (i n : ℕ) → IsUnderWay graph extra a goal cells i → LeadsTo graph.pairs (events_of graph.slots cells) (events_of graph.slots mid) → AreFollowed graph.pairs goal (events_of graph.slots mid) (events_of graph.slots mid) → IsPrefix cells mid → LeadsTo extra (events_of graph.slots mid) (events_of graph.slots new) → (length new ≡ length mid → AreFollowed extra goal (events_of graph.slots new) (events_of graph.slots new)) → IsPrefix mid new → ArePlaced graph.slots new → n ≡ length mid → IsUnderWay graph extra a goal new n
 IsUnderWay-more graph extra a goal cells mid new i n was leads followed front extra_leads extra_followed extra_front placed size =
     let order = graph.pairs ++ extra in
     let events = events_of graph.slots mid in
-    let ahead = IsFrontOf-map (event_of graph.slots) mid new extra_front in
-    let longer = IsFrontOf-map (event_of graph.slots) cells new (IsFrontOf-trans cells mid new front extra_front) in
+    let ahead = IsPrefix-map (event_of graph.slots) mid new extra_front in
+    let longer = IsPrefix-map (event_of graph.slots) cells new (IsPrefix-trans cells mid new front extra_front) in
     let taken : take n (events_of graph.slots new) ≡ events = ap (λ k. take k (events_of graph.slots new)) (size ∙ sym (length-map mid (event_of graph.slots))) ∙ take_front events (events_of graph.slots new) ahead in
-    let le = IsFrontOf-length mid new extra_front in
+    let le = IsPrefix-length mid new extra_front in
     record {
       behind = extra_leads.from order a (said_behind graph.pairs extra) (leads.from order a (said_front graph.pairs extra) was.behind);
       start = is_in-more (events_of graph.slots cells) (events_of graph.slots new) a longer was.start;
@@ -172,7 +173,7 @@ IsUnderWay-more graph extra a goal cells mid new i n was leads followed front ex
       extra_followed = λ all. extra_followed (omega (arith, le, size));
       placed = placed;
       within = omega (arith, le, size);
-      some = omega (arith, le, IsFrontOf-length cells mid front, was.some);
+      some = omega (arith, le, IsPrefix-length cells mid front, was.some);
     }
 
 -- the graph's pairs lead on to the goal

@@ -7,8 +7,8 @@ use Rattle.std.proofs.lemmas.List.{get_or-reverse, length-reverse}
 use Rattle.std.proofs.lemmas.List.Elements.{All-cons, All-nil, recursion_from_All}
 use Rattle.std.proofs.lemmas.List.Folds.{list_any-append}
 use Rattle.std.proofs.lemmas.List.Sums.{sum_by-cons}
-use Rattle.kr_order.specs.Front.{IsFrontOf}
-use Rattle.kr_order.proofs.FrontLemmas.{IsFrontOf-refl, IsFrontOf-append, IsFrontOf-trans}
+use Rattle.kr_order.specs.Prefix.{IsPrefix}
+use Rattle.kr_order.proofs.PrefixLemmas.{IsPrefix-refl, IsPrefix-append, IsPrefix-trans}
 use Rattle.reach.specs.Finds.{is_in, with, with_all}
 
 -- two numbers are equal either way round
@@ -29,7 +29,7 @@ pub is_in-append : (xs ys : List ℕ) (x : ℕ) → is_in (xs ++ ys) x ≡ (is_i
 is_in-append xs ys x = list_any-append (eqb x) xs ys
 
 -- what was there stays there
-pub is_in-more : (xs ys : List ℕ) (x : ℕ) → IsFrontOf xs ys → is_in xs x ≡ true → is_in ys x ≡ true
+pub is_in-more : (xs ys : List ℕ) (x : ℕ) → IsPrefix xs ys → is_in xs x ≡ true → is_in ys x ≡ true
 is_in-more xs ys x front there =
     ap (λ zs. is_in zs x) front.is ∙ is_in-append xs front.more x ∙ or_left (is_in xs x) (is_in front.more x) there
 
@@ -167,9 +167,9 @@ times-distinct (y ∷ ys) x distinct =
         omega (arith, sum_by-cons weight z zs, sum_by-none zs all.1, here)
 
 -- a list with a number begins with the list
-pub IsFrontOf-with : (xs : List ℕ) (y : ℕ) → IsFrontOf xs (with xs y)
-IsFrontOf-with xs y =
-    elim (is_in xs y) as (λ there. IsFrontOf xs (cond there xs (xs ++ y ∷ []))) [ true ↦ IsFrontOf-refl xs | false ↦ IsFrontOf-append xs (y ∷ []) ]
+pub IsPrefix-with : (xs : List ℕ) (y : ℕ) → IsPrefix xs (with xs y)
+IsPrefix-with xs y =
+    elim (is_in xs y) as (λ there. IsPrefix xs (cond there xs (xs ++ y ∷ []))) [ true ↦ IsPrefix-refl xs | false ↦ IsPrefix-append xs (y ∷ []) ]
 
 -- and is distinct where the list is
 pub IsDistinct-with : (xs : List ℕ) (y : ℕ) → IsDistinct eqb xs → IsDistinct eqb (with xs y)
@@ -180,9 +180,9 @@ IsDistinct-with xs y distinct = by_test (is_in xs y) refl
     by_test false is = IsDistinct-push xs y distinct is
 
 -- one with several begins with the list too
-pub IsFrontOf-with_all : (xs ys : List ℕ) → IsFrontOf xs (with_all xs ys)
-IsFrontOf-with_all xs [] = IsFrontOf-refl xs
-IsFrontOf-with_all xs (y ∷ ys) = IsFrontOf-trans xs (with xs y) (with_all (with xs y) ys) (IsFrontOf-with xs y) (IsFrontOf-with_all (with xs y) ys)
+pub IsPrefix-with_all : (xs ys : List ℕ) → IsPrefix xs (with_all xs ys)
+IsPrefix-with_all xs [] = IsPrefix-refl xs
+IsPrefix-with_all xs (y ∷ ys) = IsPrefix-trans xs (with xs y) (with_all (with xs y) ys) (IsPrefix-with xs y) (IsPrefix-with_all (with xs y) ys)
 
 -- the number is there
 pub is_in-with_same : (xs : List ℕ) (y : ℕ) → is_in (with xs y) y ≡ true
@@ -205,7 +205,7 @@ pub is_in-with_all_new : (xs ys : List ℕ) (x : ℕ) → is_in ys x ≡ true �
 is_in-with_all_new xs [] x never = cc
 is_in-with_all_new xs (y ∷ ys) x there =
     elim (or_cases (eqb x y) (is_in ys x) there) [
-      | inl same ↦ is_in-more (with xs y) (with_all (with xs y) ys) x (IsFrontOf-with_all (with xs y) ys) (subst (λ z. is_in (with xs y) z ≡ true) (sym (eqb-true x y same)) (is_in-with_same xs y))
+      | inl same ↦ is_in-more (with xs y) (with_all (with xs y) ys) x (IsPrefix-with_all (with xs y) ys) (subst (λ z. is_in (with xs y) z ≡ true) (sym (eqb-true x y same)) (is_in-with_same xs y))
       | inr more ↦ is_in-with_all_new (with xs y) ys x more
     ]
 

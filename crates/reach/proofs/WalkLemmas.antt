@@ -6,14 +6,14 @@ use Rattle.std.proofs.lemmas.Bool.{and_parts, both_ways, cond-false, cond-true, 
 use Rattle.std.proofs.lemmas.List.{append-nil, get_or-map, get_or-reverse, length-append, nil_from_length, length-map, length-reverse, take-append-le, take_more}
 use Rattle.std.proofs.lemmas.List.Elements.{All-more, recursion_from_All}
 use Rattle.std.proofs.lemmas.List.Sums.{sum_by_push}
-use Rattle.kr_order.specs.Front.{IsFrontOf}
+use Rattle.kr_order.specs.Prefix.{IsPrefix}
 use Rattle.kr_order.specs.Order.{reach}
-use Rattle.kr_order.proofs.FrontLemmas.{IsFrontOf-trans, IsFrontOf-length, IsFrontOf-map}
+use Rattle.kr_order.proofs.PrefixLemmas.{IsPrefix-trans, IsPrefix-length, IsPrefix-map}
 use Rattle.kr_order.proofs.OrderLemmas.{reach-trans}
 use Rattle.dep_graph.specs.GraphView.{event_at, outs_of}
 use Rattle.reach.specs.Finds.{is_in, with, with_all}
 use Rattle.reach.specs.Walk.{event_of, events_of, ArePlaced, AreSaid, LeadsTo, Meets, IsFoundBefore, IsFollowed, AreFollowed, led_by, steps_of}
-use Rattle.reach.proofs.MemberLemmas.{eqb-sym, is_in-more, is_in-push_cases, is_in-at, IsFrontOf-with, IsFrontOf-with_all, is_in-with_same, is_in-with_cases, is_in-with_all_new, is_in-with_all_cases, All-reverse}
+use Rattle.reach.proofs.MemberLemmas.{eqb-sym, is_in-more, is_in-push_cases, is_in-at, IsPrefix-with, IsPrefix-with_all, is_in-with_same, is_in-with_cases, is_in-with_all_new, is_in-with_all_cases, All-reverse}
 use Rattle.reach.proofs.CellLemmas.{StandOnce, events_of-with, ArePlaced-with}
 
 -- a pair of the order leads to each successor
@@ -104,8 +104,8 @@ AreFollowed-outs pairs goal found i d below unmet followed k e in_pairs =
     pair : ℕ × ℕ
     pair = get_or pairs k e
 
-    front : IsFrontOf found new
-    front = IsFrontOf-with_all found (outs_of pairs x)
+    front : IsPrefix found new
+    front = IsPrefix-with_all found (outs_of pairs x)
 
     taken : take (i + 1) new ≡ take i found ++ x ∷ []
     taken = ap (take (i + 1)) front.is ∙ take-append-le (i + 1) found front.more (omega arith) ∙ take_more found i d below
@@ -128,7 +128,7 @@ AreFollowed-outs pairs goal found i d below unmet followed k e in_pairs =
 pub record Follows (slots : List (Option ℕ)) (outs : List ℕ) (goal : ℕ) (old now : List ℕ) (rest : List (ℕ × ℕ)) : Type 0 where
   pub value : is_in (map (λ out. out.1) rest) goal ≡ is_in outs goal
   pub found : with_all (events_of slots now) (map (λ out. out.1) rest) ≡ with_all (events_of slots old) outs
-  pub front : IsFrontOf old now
+  pub front : IsPrefix old now
   pub placed : ArePlaced slots now
   pub cells : All (λ out. event_at slots out.0 ≡ Some out.1) rest
   pub size : length rest ≤ length outs
@@ -140,7 +140,7 @@ Follows-more slots outs goal old now cell event rest once other was =
     record {
       value = ap (λ test. test || is_in (map (λ out. out.1) rest) goal) (sym (eqb-sym goal event ∙ other)) ∙ was.value;
       found = ap (λ events. with_all events (map (λ out. out.1) rest)) (events_of-with slots now cell event once was.placed at) ∙ was.found;
-      front = IsFrontOf-trans old now (with now cell) was.front (IsFrontOf-with now cell);
+      front = IsPrefix-trans old now (with now cell) was.front (IsPrefix-with now cell);
       placed = ArePlaced-with slots now cell was.placed (ap is_some at);
       cells = λ k d below. was.cells (suc k) d (omega arith);
       size = omega (arith, was.size);
@@ -150,7 +150,7 @@ Follows-more slots outs goal old now cell event rest once other was =
 pub record IsSearched (pairs : List (ℕ × ℕ)) (slots : List (Option ℕ)) (goal : ℕ) (old now : List ℕ) (i : ℕ) : Type 0 where
   pub leads : LeadsTo pairs (events_of slots old) (events_of slots now)
   pub followed : AreFollowed pairs goal (take i (events_of slots now)) (events_of slots now)
-  pub front : IsFrontOf old now
+  pub front : IsPrefix old now
   pub placed : ArePlaced slots now
   pub within : i ≤ length now
 
@@ -159,7 +159,7 @@ pub event_at-index : (slots : List (Option ℕ)) (cells : List ℕ) (i d : ℕ) 
 event_at-index slots cells i d below = get_or-map (event_of slots) cells i d d below
 
 -- an event more is taken up
-pub IsSearched-more : (pairs : List (ℕ × ℕ)) (slots : List (Option ℕ)) (goal : ℕ) (old now new : List ℕ) (i cell : ℕ) → i < length now → cell ≡ get_or now i 0 → is_in (outs_of pairs (event_of slots cell)) goal ≡ false → events_of slots new ≡ with_all (events_of slots now) (outs_of pairs (event_of slots cell)) → IsFrontOf now new → ArePlaced slots new → IsSearched pairs slots goal old now i → IsSearched pairs slots goal old new (i + 1)
+pub IsSearched-more : (pairs : List (ℕ × ℕ)) (slots : List (Option ℕ)) (goal : ℕ) (old now new : List ℕ) (i cell : ℕ) → i < length now → cell ≡ get_or now i 0 → is_in (outs_of pairs (event_of slots cell)) goal ≡ false → events_of slots new ≡ with_all (events_of slots now) (outs_of pairs (event_of slots cell)) → IsPrefix now new → ArePlaced slots new → IsSearched pairs slots goal old now i → IsSearched pairs slots goal old new (i + 1)
 IsSearched-more pairs slots goal old now new i cell below at unmet found front placed was =
     let events = events_of slots now in
     let in_events : i < length events = omega (arith, length-map now (event_of slots)) in
@@ -169,9 +169,9 @@ IsSearched-more pairs slots goal old now new i cell below at unmet found front p
     record {
       leads = subst (λ es. LeadsTo pairs (events_of slots old) es) (sym found_at) (LeadsTo-outs pairs (events_of slots old) events (get_or events i 0) (is_in-at events i 0 in_events) was.leads);
       followed = subst (λ es. AreFollowed pairs goal (take (i + 1) es) es) (sym found_at) (AreFollowed-outs pairs goal events i 0 in_events unmet_at was.followed);
-      front = IsFrontOf-trans old now new was.front front;
+      front = IsPrefix-trans old now new was.front front;
       placed = placed;
-      within = omega (arith, IsFrontOf-length now new front, was.within);
+      within = omega (arith, IsPrefix-length now new front, was.within);
     }
 
 -- the event leads to the goal
@@ -183,12 +183,12 @@ Meets-at pairs slots goal old now i cell below at met was =
     Meets-outs pairs (events_of slots old) events (event_of slots cell) goal (subst (λ e. is_in events e ≡ true) same (is_in-at events i 0 in_events)) was.leads met
 
 -- the steps for an event more
-pub steps_of-more : (pairs : List (ℕ × ℕ)) (slots : List (Option ℕ)) (now new : List ℕ) (i cell : ℕ) → i < length now → cell ≡ get_or now i 0 → IsFrontOf now new → steps_of pairs (take (i + 1) (events_of slots new)) ≡ steps_of pairs (take i (events_of slots now)) + length (outs_of pairs (event_of slots cell)) + 1
+pub steps_of-more : (pairs : List (ℕ × ℕ)) (slots : List (Option ℕ)) (now new : List ℕ) (i cell : ℕ) → i < length now → cell ≡ get_or now i 0 → IsPrefix now new → steps_of pairs (take (i + 1) (events_of slots new)) ≡ steps_of pairs (take i (events_of slots now)) + length (outs_of pairs (event_of slots cell)) + 1
 steps_of-more pairs slots now new i cell below at front =
     let events = events_of slots now in
     let in_events : i < length events = omega (arith, length-map now (event_of slots)) in
     let same : get_or events i 0 ≡ event_of slots cell = event_at-index slots now i 0 below ∙ ap (event_of slots) (sym at) in
-    let ahead = IsFrontOf-map (event_of slots) now new front in
+    let ahead = IsPrefix-map (event_of slots) now new front in
     let taken : take (i + 1) (events_of slots new) ≡ take i events ++ get_or events i 0 ∷ [] = ap (take (i + 1)) ahead.is ∙ take-append-le (i + 1) events ahead.more (omega arith) ∙ take_more events i 0 in_events in
     let cost : ℕ → ℕ = λ event. length (outs_of pairs event) + 1 in
     ap (steps_of pairs) taken ∙ sum_by_push cost (take i events) (get_or events i 0) ∙ ap (λ e. steps_of pairs (take i events) + cost e) same ∙ sym (add_assoc (steps_of pairs (take i events)) (length (outs_of pairs (event_of slots cell))) 1)
@@ -204,7 +204,7 @@ led_by-in found pair there = sym (cond-true (is_in found pair.0) (with found pai
 pub record IsLedOn (pairs : List (ℕ × ℕ)) (slots : List (Option ℕ)) (goal : ℕ) (old now : List ℕ) (i : ℕ) : Type 0 where
   pub leads : LeadsTo pairs (events_of slots old) (events_of slots now)
   pub followed : length now ≡ length old → AreFollowed (take i pairs) goal (events_of slots now) (events_of slots now)
-  pub front : IsFrontOf old now
+  pub front : IsPrefix old now
   pub placed : ArePlaced slots now
 
 -- what a pair leads to
@@ -230,12 +230,12 @@ LeadsTo-pair pairs old found i d below so_far = by_test (is_in found (get_or pai
         }
 
 -- a pair more
-pub IsLedOn-more : (pairs : List (ℕ × ℕ)) (slots : List (Option ℕ)) (goal : ℕ) (old now new : List ℕ) (i : ℕ) (d : ℕ × ℕ) → i < length pairs → (is_in (events_of slots now) (get_or pairs i d).0 && eqb (get_or pairs i d).1 goal) ≡ false → events_of slots new ≡ led_by (get_or pairs i d) (events_of slots now) → IsFrontOf now new → ArePlaced slots new → IsLedOn pairs slots goal old now i → IsLedOn pairs slots goal old new (i + 1)
+pub IsLedOn-more : (pairs : List (ℕ × ℕ)) (slots : List (Option ℕ)) (goal : ℕ) (old now new : List ℕ) (i : ℕ) (d : ℕ × ℕ) → i < length pairs → (is_in (events_of slots now) (get_or pairs i d).0 && eqb (get_or pairs i d).1 goal) ≡ false → events_of slots new ≡ led_by (get_or pairs i d) (events_of slots now) → IsPrefix now new → ArePlaced slots new → IsLedOn pairs slots goal old now i → IsLedOn pairs slots goal old new (i + 1)
 IsLedOn-more pairs slots goal old now new i d below unmet found front placed was =
     record {
       leads = subst (λ es. LeadsTo pairs (events_of slots old) es) (sym found) (LeadsTo-pair pairs (events_of slots old) (events_of slots now) i d below was.leads);
       followed = λ size. subst (λ cells. AreFollowed (take (i + 1) pairs) goal (events_of slots cells) (events_of slots cells)) (sym (same size)) (followed size);
-      front = IsFrontOf-trans old now new was.front front;
+      front = IsPrefix-trans old now new was.front front;
       placed = placed;
     }
   where
@@ -244,8 +244,8 @@ IsLedOn-more pairs slots goal old now new i d below unmet found front placed was
 
     same : length new ≡ length old → new ≡ now
     same size =
-        let le = IsFrontOf-length old now was.front in
-        let none : length front.more ≡ 0 = omega (arith, IsFrontOf-length old now was.front, size, ap (λ (l : List ℕ). length l) front.is, length-append now front.more) in
+        let le = IsPrefix-length old now was.front in
+        let none : length front.more ≡ 0 = omega (arith, IsPrefix-length old now was.front, size, ap (λ (l : List ℕ). length l) front.is, length-append now front.more) in
         front.is ∙ ap (λ more. now ++ more) (nil_from_length front.more none) ∙ append-nil now
 
     last : length new ≡ length old → is_in (events_of slots now) (get_or pairs i d).0 ≡ true → IsFoundBefore goal (events_of slots now) (get_or pairs i d).1

@@ -2,6 +2,7 @@
 
 ghost use Rattle.std.specs.Prelude.{◌≡◌, ◌≤◌, ◌+◌, ◌*◌, ℕ, List, length, OnOk, OnErr};
 ghost use Rattle.kr_order.specs.declared.history.Entry.{Entry};
+ghost use Rattle.kr_order.specs.Held.{held_events, held_pairs};
 ghost use Rattle.kr_order.specs.Answer.{answer_to};
 
 use crate::Scratch;
@@ -13,9 +14,10 @@ pub trait Asks {
     // the history that the value stands for
     ghost history: { Self → List Entry };
 
-    // how many cells, events and pairs the order has
+    // how many cells the order has
     ghost cells: { Self → ℕ };
 
+    // how many events and pairs are held
     ghost held: { Self → ℕ };
 
     ghost pairs_held: { Self → ℕ };
@@ -26,7 +28,7 @@ pub trait Asks {
         ensures room { scratch.old ≤ scratch.new }
         ensures err { OnErr result (scratch.new ≡ scratch.old) };
 
-    /// How `a` stands to `b`. It takes no memory.
+    /// How `a` stands to `b`. It takes no memory, and at most two steps for each held event and each held pair.
     fn answer<L: Ledger>(
         &self,
         scratch: &mut Scratch,
@@ -37,6 +39,8 @@ pub trait Asks {
         requires { cells self.now ≤ scratch.old }
         ensures value { result ≡ answer_to (history self.now) a.0 b.0 }
         ensures most { steps.new ≤ steps.old + 2 * (held self.now + pairs_held self.now) }
+        ensures held { held self.now ≡ length (held_events (history self.now)) }
+        ensures pairs_held { pairs_held self.now ≡ length (held_pairs (history self.now)) }
         ensures room { scratch.new ≡ scratch.old };
 
     /// The length of the history that the value stands for.

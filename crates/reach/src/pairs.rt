@@ -2,7 +2,7 @@
 
 ghost use Rattle.std.specs.Prelude.{◌≡◌, ◌<◌, ◌≤◌, ◌+◌, ◌&&◌, ◌==◌, true, false, length, Some, IsSome};
 ghost use Rattle.std.specs.List.{All};
-ghost use Rattle.kr_order.specs.Front.{IsFrontOf};
+ghost use Rattle.kr_order.specs.Prefix.{IsPrefix};
 ghost use Rattle.dep_graph.specs.GraphView.{is_held, event_at};
 ghost use Rattle.reach.specs.Finds.{is_in, with_all};
 ghost use Rattle.reach.specs.Search.{numbered, AreHeld};
@@ -36,7 +36,7 @@ pub fn follow<L: Ledger>(
     ensures value { result ≡ is_in (outs_at graph.now cell) goal.0 }
     ensures found { result ≡ false
         → events_in graph.now found.new ≡ with_all (events_in graph.now found.old) (outs_at graph.now cell) }
-    ensures front { IsFrontOf found.old.cells found.new.cells }
+    ensures front { IsPrefix found.old.cells found.new.cells }
     ensures placed { ArePlaced graph.now.slots found.new.cells }
     ensures room { found.new.room ≡ found.old.room }
     ensures least { steps.old ≤ steps.new }
@@ -63,7 +63,7 @@ fn follow_pair(graph: &Graph, pair: &(EventId, EventId), found: &mut Found, goal
         ≡ (is_in (events_in graph.now found.old) pair.now.0.0 && pair.now.1.0 == goal.0) }
     ensures found { result ≡ false
         → events_in graph.now found.new ≡ led_by (pair.now.0.0, pair.now.1.0) (events_in graph.now found.old) }
-    ensures front { IsFrontOf found.old.cells found.new.cells }
+    ensures front { IsPrefix found.old.cells found.new.cells }
     ensures placed { ArePlaced graph.now.slots found.new.cells }
     ensures room { found.new.room ≡ found.old.room }
 {
@@ -97,7 +97,7 @@ pub fn follow_each<L: Ledger>(
         → LeadsTo (numbered pairs.now) (events_in graph.now found.old) (events_in graph.now found.new) }
     ensures followed { result ≡ false → length found.new.cells ≡ length found.old.cells
         → AreFollowed (numbered pairs.now) goal.0 (events_in graph.now found.new) (events_in graph.now found.new) }
-    ensures front { IsFrontOf found.old.cells found.new.cells }
+    ensures front { IsPrefix found.old.cells found.new.cells }
     ensures placed { ArePlaced graph.now.slots found.new.cells }
     ensures room { found.new.room ≡ found.old.room }
     ensures least { steps.old ≤ steps.new }

@@ -2,7 +2,7 @@
 
 ghost use Rattle.std.specs.Prelude.{◌≡◌, ◌<◌, ◌≤◌, ◌+◌, ◌*◌, ◌++◌, true, false, length, take};
 ghost use Rattle.std.specs.List.{All};
-ghost use Rattle.kr_order.specs.Front.{IsFrontOf};
+ghost use Rattle.kr_order.specs.Prefix.{IsPrefix};
 ghost use Rattle.kr_order.specs.Order.{reach};
 ghost use Rattle.kr_order.specs.Answer.{answer_over};
 ghost use Rattle.dep_graph.specs.GraphView.{is_held};
@@ -35,7 +35,7 @@ fn search<L: Ledger>(
     ensures followed { result ≡ false
         → AreFollowed graph.now.pairs goal.0
         (events_in graph.now found.new) (events_in graph.now found.new) }
-    ensures front { IsFrontOf found.old.cells found.new.cells }
+    ensures front { IsPrefix found.old.cells found.new.cells }
     ensures placed { ArePlaced graph.now.slots found.new.cells }
     ensures room { found.new.room ≡ found.old.room }
     ensures least { from < length found.old.cells → steps.old < steps.new }

@@ -1,7 +1,7 @@
 use Rattle.std.proofs.Common.{◌≡◌, ◌<◌, ◌≤◌, ◌+◌, ◌*◌, [], ◌∷◌, length, take, refl, ap, sym, ◌∙◌, arith, add-mul, one-mul, mul-le-mul_right}
 use Rattle.std.proofs.lemmas.List.{length-map}
 use Rattle.std.proofs.lemmas.List.Sums.{sum_by-take-le}
-use Rattle.kr_order.proofs.FrontLemmas.{IsFrontOf-length, IsFrontOf-map, take_front}
+use Rattle.kr_order.proofs.PrefixLemmas.{IsPrefix-length, IsPrefix-map, take_front}
 use Rattle.dep_graph.specs.GraphView.{outs_of}
 use Rattle.reach.specs.Finds.{with}
 use Rattle.reach.specs.Search.{numbered}
@@ -33,7 +33,7 @@ pub returns-then-search-clause-most : goal.returns-then-search-clause-most
 returns-then-search-clause-most g c =
     let graph = c.args.graph.now in
     let new = c.search.new.found.cells in
-    let le = IsFrontOf-length c.loop-next.found.cells new c.search.ensures.front in
+    let le = IsPrefix-length c.loop-next.found.cells new c.search.ensures.front in
     steps_bound graph new c.args.steps.now c.search.new.steps c.loop-next.next (length c.args.extra.now) c.known.ensures c.search.ensures.placed (omega (arith, c.search.ensures.most, c.loop-next.invariant.most)) (omega (arith, le, c.loop-next.invariant.under_way.within))
 
 pub returns-then-follow_each-clause-value : goal.returns-then-follow_each-clause-value
@@ -51,7 +51,7 @@ returns-then-follow_each-clause-most g c =
     let extra = length c.args.extra.now in
     let mid = c.search.new.found.cells in
     let next = c.loop-next.next in
-    let le = IsFrontOf-length c.loop-next.found.cells mid c.search.ensures.front in
+    let le = IsPrefix-length c.loop-next.found.cells mid c.search.ensures.front in
     let below : next < length c.loop-next.found.cells = omega (arith, c.len.ensures.value, c.loop-next-test.true) in
     let one_more : (next + 1) * extra ≡ next * extra + extra = add-mul next 1 extra ∙ ap (λ n. next * extra + n) (one-mul extra) in
     steps_bound graph mid c.args.steps.now c.follow_each.new.steps (next + 1) extra c.known.ensures c.search.ensures.placed (omega (arith, one_more, c.search.ensures.most, c.follow_each.ensures.most, c.loop-next.invariant.most)) (omega (arith, le, below))
@@ -67,11 +67,11 @@ loop-next-preserved g c =
     let next = c.loop-next.next in
     let size = c.len-next.ensures.value in
     let below : next < length cells = omega (arith, c.len.ensures.value, c.loop-next-test.true) in
-    let le = IsFrontOf-length cells mid c.search.ensures.front in
+    let le = IsPrefix-length cells mid c.search.ensures.front in
     let one_more : (next + 1) * extra ≡ next * extra + extra = add-mul next 1 extra ∙ ap (λ n. next * extra + n) (one-mul extra) in
     let product : (next + 1) * extra ≤ c.len-next.result * extra = mul-le-mul_right extra (omega (arith, size, below, le)) in
     let events = events_of graph.slots mid in
-    let ahead = IsFrontOf-map (event_of graph.slots) mid new c.follow_each.ensures.front in
+    let ahead = IsPrefix-map (event_of graph.slots) mid new c.follow_each.ensures.front in
     let taken : take c.len-next.result (events_of graph.slots new) ≡ events = ap (λ k. take k (events_of graph.slots new)) (size ∙ sym (length-map mid (event_of graph.slots))) ∙ take_front events (events_of graph.slots new) ahead in
     let searched = c.search.ensures in
     let led = c.follow_each.ensures in

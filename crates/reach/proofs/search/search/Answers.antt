@@ -1,6 +1,6 @@
 use Rattle.std.proofs.Common.{◌≡◌, ◌<◌, ◌+◌, false, true, length, sym, ◌∙◌, arith}
 use Rattle.std.proofs.lemmas.List.Sums.{sum_by-take-le}
-use Rattle.kr_order.proofs.FrontLemmas.{IsFrontOf-length}
+use Rattle.kr_order.proofs.PrefixLemmas.{IsPrefix-length}
 use Rattle.dep_graph.specs.GraphView.{outs_of}
 use Rattle.reach.specs.Finds.{is_in}
 use Rattle.reach.specs.Walk.{event_of, events_of}
@@ -47,4 +47,4 @@ loop-next-preserved g c =
 
 pub returns-clause-least : goal.returns-clause-least
 returns-clause-least g c some =
-    omega (arith, IsFrontOf-length _ _ c.loop-next.invariant.searched.front, c.loop-next.invariant.least, c.loop-next-test.false, c.len.ensures.value)
+    omega (arith, IsPrefix-length _ _ c.loop-next.invariant.searched.front, c.loop-next.invariant.least, c.loop-next-test.false, c.len.ensures.value)
