@@ -1,13 +1,13 @@
 -- Batches whose events all are live.
 use Rattle.std.proofs.Common.{◌≡◌, ℕ, ◌+◌, ◌<◌, Bool, true, false, cond, eqb, not, ltb, ◌&&◌, ◌||◌, List, [], ◌∷◌, refl, sym, ap, ◌∙◌, arith}
-use Rattle.std.specs.Prelude.{None, Some, map}
+use Rattle.std.specs.Prelude.{None, Some}
 use Rattle.std.specs.List.{AllByRecursion, position_from}
 use Rattle.std.proofs.lemmas.Bool.{and_parts, ltb-true, not-false}
 use Rattle.std.proofs.lemmas.Iterator.Adapters.{position_from-zero}
 use Rattle.std.proofs.lemmas.List.Elements.{All-from_recursion}
 use Rattle.kr_order.specs.declared.batch.Pair.{Pair}
 use Rattle.kr_order.specs.Agreed.{Agreed, is_live, both_live, first_unknown}
-use Rattle.dep_graph.specs.GraphView.{is_held}
+use Rattle.kr_order.proofs.BornLemmas.{no_position}
 use Rattle.ref_collect.specs.Counts.{count_of}
 use Rattle.batch_assign.specs.Plan.{counted, LiveAreHeld, IsPairHeld, IsBatchHeld}
 
@@ -27,19 +27,10 @@ first_unknown-same a b batch same =
     let each : (pair : Pair) → in_a pair ≡ in_b pair = λ pair. ap (λ n. not (ltb 0 n && is_live a pair.second.0)) (same pair.first.0) ∙ ap (λ n. not (is_live b pair.first.0 && ltb 0 n)) (same pair.second.0) in
     position_from-zero in_a batch ∙ position_from-same in_a in_b each 0 batch ∙ sym (position_from-zero in_b batch)
 
--- where no index is found, each item fails the test
-none_found : {X : Type 0} (p : X → Bool) (i : ℕ) (xs : List X) → position_from p i xs ≡ None → AllByRecursion (λ x. p x ≡ false) xs
-none_found p i [] none = tt
-none_found p i (x ∷ xs) none = by_test (p x) refl none (none_found p (i + 1) xs)
-  where
-    by_test : (test : Bool) → p x ≡ test → cond test (Some i) (position_from p (i + 1) xs) ≡ None → (position_from p (i + 1) xs ≡ None → AllByRecursion (λ x. p x ≡ false) xs) → AllByRecursion (λ x. p x ≡ false) (x ∷ xs)
-    by_test true is found rest = cc
-    by_test false is found rest = (is, rest found)
-
 -- the events of a batch of live events are held, where each live event is
 pub IsBatchHeld-known : (counts : List (ℕ × ℕ)) (vertices : List ℕ) (batch : List Pair) → LiveAreHeld counts vertices → first_unknown (counted counts) batch ≡ None → IsBatchHeld vertices batch
 IsBatchHeld-known counts vertices batch live none =
-    All-from_recursion (IsPairHeld vertices) batch (each batch (none_found unknown 0 batch (sym (position_from-zero unknown batch) ∙ none)))
+    All-from_recursion (IsPairHeld vertices) batch (each batch (no_position unknown 0 batch (sym (position_from-zero unknown batch) ∙ none)))
   where
     unknown : Pair → Bool
     unknown pair = not (both_live (counted counts) pair.first.0 pair.second.0)
@@ -55,15 +46,3 @@ IsBatchHeld-known counts vertices batch live none =
     each : (pairs : List Pair) → AllByRecursion (λ pair. unknown pair ≡ false) pairs → AllByRecursion (IsPairHeld vertices) pairs
     each [] all = tt
     each (pair ∷ more) all = (held pair all.0, each more all.1)
-
--- where the held events are those that were born, each live event is held
-pub LiveAreHeld-born : (counts : List (ℕ × ℕ)) → LiveAreHeld counts (map (λ entry. entry.0) counts)
-LiveAreHeld-born [] event live = absurd (omega arith)
-LiveAreHeld-born (entry ∷ more) event live = by_test (eqb entry.0 event) live (LiveAreHeld-born more event)
-  where
-    firsts : List ℕ
-    firsts = map (λ (e : ℕ × ℕ). e.0) more
-
-    by_test : (test : Bool) → 0 < cond test entry.1 (count_of more event) → (0 < count_of more event → is_held firsts event ≡ true) → (test || is_held firsts event) ≡ true
-    by_test true live rest = refl
-    by_test false live rest = rest live

@@ -1,9 +1,9 @@
 -- What a batch is to do, before it is done: the pairs that it adds to the order, and what becomes of each of its own.
-use Rattle.std.specs.Prelude.{◌≡◌, ◌++◌, ◌<◌, ℕ, true, None, Some, List, []}
+use Rattle.std.specs.Prelude.{◌≡◌, ◌+◌, ◌*◌, ◌++◌, ◌<◌, ℕ, true, None, Some, List, [], length, sum_by, if◌then◌else◌}
 use Rattle.std.specs.List.{All}
 use Rattle.kr_order.specs.declared.ids.EventId.{EventId}
 use Rattle.kr_order.specs.declared.batch.Pair.{Pair}
-use Rattle.kr_order.specs.Batch.{contradicts, pairs_with, outcomes_of}
+use Rattle.kr_order.specs.Batch.{is_must, contradicts, pairs_with, outcomes_of}
 use Rattle.kr_order.specs.Agreed.{Agreed, first_unknown}
 use Rattle.dep_graph.specs.GraphView.{GraphView, is_held, CanAddAll}
 use Rattle.reach.specs.Search.{numbered, AreHeld}
@@ -66,3 +66,29 @@ abbrev pub IsStop : List (ℕ × ℕ) → GraphView → List Pair → BatchStop 
 IsStop counts graph batch (stop.Unknown i) = first_unknown (counted counts) batch ≡ Some i
 IsStop counts graph batch (stop.Contradicts i) = IsOpposed counts graph batch i
 IsStop counts graph batch stop.NoMemory = Unit {0}
+
+-- the most steps of a search through the graph and so many pairs more: an event is taken up, or a pair looked at
+abbrev pub search_most : GraphView → ℕ → ℕ
+search_most graph more = length graph.vertices * (1 + more) + length graph.pairs
+
+-- the most steps of so many searches, each twice
+abbrev pub twice_each : ℕ → ℕ → ℕ
+twice_each pairs most = 2 * (pairs * most)
+
+-- the most steps of a plan of so many pairs: two searches for each of them, through at most as many pairs more
+abbrev pub plan_most : GraphView → ℕ → ℕ
+plan_most graph pairs = twice_each pairs (search_most graph pairs)
+
+-- a must counts as one where musts are counted, and a prefer where prefers are
+abbrev pub must_one : Pair → ℕ
+must_one pair = if is_must pair.kind then 1 else 0
+
+abbrev pub prefer_one : Pair → ℕ
+prefer_one pair = if is_must pair.kind then 0 else 1
+
+-- how many musts a batch has, and how many prefers
+abbrev pub musts_in : List Pair → ℕ
+musts_in batch = sum_by must_one batch
+
+abbrev pub prefers_in : List Pair → ℕ
+prefers_in batch = sum_by prefer_one batch

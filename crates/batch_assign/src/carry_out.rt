@@ -15,6 +15,7 @@ pub fn commit(graph: &mut Graph, plan: Plan) -> Outcomes
     ensures outcomes { result ≡ plan.outcomes }
     ensures pairs { graph.new.pairs ≡ graph.old.pairs ++ numbered plan.adds }
     ensures vertices { graph.new.vertices ≡ graph.old.vertices }
+    ensures bare { graph.new.bare ≡ graph.old.bare }
     ensures slots { graph.new.slots ≡ graph.old.slots }
     ensures spare_vertices { graph.new.spare_vertices ≡ graph.old.spare_vertices }
     ensures spare_pairs { graph.old.spare_pairs ≤ graph.new.spare_pairs + length plan.adds }

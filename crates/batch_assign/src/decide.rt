@@ -1,8 +1,8 @@
 //! What a batch is to do with the order, and why it may have to be refused.
 
-ghost use Rattle.std.specs.Prelude.{◌≡◌, ◌≤◌, ◌<◌, length, IfOk, IfErr, IfSome};
+ghost use Rattle.std.specs.Prelude.{◌≡◌, ◌≤◌, ◌<◌, ◌+◌, length, IfOk, IfErr, IfSome};
 ghost use Rattle.kr_order.specs.Agreed.{first_unknown, both_live};
-ghost use Rattle.batch_assign.specs.Plan.{counted, LiveAreHeld, IsBatchHeld, IsChecked, IsRefused, IsPlan, IsStop};
+ghost use Rattle.batch_assign.specs.Plan.{counted, LiveAreHeld, IsBatchHeld, IsChecked, IsRefused, IsPlan, IsStop, plan_most};
 
 use crate::draft::{add_musts, add_prefers};
 use crate::{Adds, BatchStop, Plan};
@@ -53,6 +53,8 @@ fn checked<L: Ledger>(
     ensures ok { IfOk result (IsChecked graph.now batch.now) }
     ensures err { IfErr result (IsRefused graph.now batch.now) }
     ensures room { scratch.new ≡ scratch.old }
+    ensures least { steps.old ≤ steps.new }
+    ensures most { steps.new ≤ steps.old + plan_most graph.now (length batch.now) }
 {
     let mut adds = Adds::new(alloc);
     match add_musts(graph, &mut adds, scratch, batch, steps)? {
@@ -78,6 +80,8 @@ pub fn plan<L: Ledger>(
     ensures ok { IfOk result (IsPlan refs.now.counts graph.now batch.now) }
     ensures err { IfErr result (IsStop refs.now.counts graph.now batch.now) }
     ensures room { scratch.new ≡ scratch.old }
+    ensures least { steps.old ≤ steps.new }
+    ensures most { steps.new ≤ steps.old + plan_most graph.now (length batch.now) }
 {
     let batch = batch.as_slice();
     match first_unknown(refs, batch) {

@@ -1,11 +1,11 @@
 //! The pairs that a batch is to add, as they are found one after the other. The order that counts for the next pair
 //! is that of the graph with the pairs that were found before.
 
-ghost use Rattle.std.specs.Prelude.{◌≡◌, ◌≤◌, ◌&&◌, true, false, length, IfOk, OnOk};
+ghost use Rattle.std.specs.Prelude.{◌≡◌, ◌≤◌, ◌+◌, ◌&&◌, true, false, length, IfOk, OnOk};
 ghost use Rattle.std.specs.List.{All};
 ghost use Rattle.kr_order.specs.Batch.{is_must, forbids, with_pair, with_must, with_prefer, musts_from, prefers_from, contradicts, outcome_of, outcomes_from};
 ghost use Rattle.reach.specs.Search.{AreHeld};
-ghost use Rattle.batch_assign.specs.Plan.{IsPairHeld, IsBatchHeld, order_with, CanBeAdded};
+ghost use Rattle.batch_assign.specs.Plan.{IsPairHeld, IsBatchHeld, order_with, CanBeAdded, search_most, twice_each, must_one, prefer_one, musts_in, prefers_in};
 
 use crate::Adds;
 use dep_graph::Graph;
@@ -27,6 +27,8 @@ fn forbids<L: Ledger>(
     requires adds { All (AreHeld graph.now.vertices) adds.now }
     ensures value { result ≡ forbids (order_with graph.now adds.now) pair.now }
     ensures room { scratch.new ≡ scratch.old }
+    ensures least { steps.old ≤ steps.new }
+    ensures most { steps.new ≤ steps.old + search_most graph.now (length adds.now) }
 {
     pair.first.0 == pair.second.0
         || reaches_with(graph, adds, scratch, pair.second, pair.first, steps)
@@ -47,6 +49,9 @@ fn add<L: Ledger>(
     ensures order { OnOk result (order_with graph.now adds.new ≡ with_pair (order_with graph.now adds.old) pair.now) }
     ensures adds { OnOk result (CanBeAdded graph.now adds.new) }
     ensures room { scratch.new ≡ scratch.old }
+    ensures grows { length adds.new ≤ length adds.old + 1 }
+    ensures least { steps.old ≤ steps.new }
+    ensures most { steps.new ≤ steps.old + search_most graph.now (length adds.old) }
 {
     if !reaches_with(
         graph,
@@ -72,10 +77,16 @@ fn add_must<L: Ledger>(
     requires fits { length graph.now.slots ≤ scratch.old }
     requires pair { IsPairHeld graph.now.vertices pair.now }
     requires adds { CanBeAdded graph.now adds.old }
-    ensures stops { IfOk result (λ stops. stops ≡ (is_must pair.now.kind && forbids (order_with graph.now adds.old) pair.now)) }
-    ensures order { IfOk result (λ stops. stops ≡ false → order_with graph.now adds.new ≡ with_must (order_with graph.now adds.old) pair.now) }
+    ensures stops { IfOk result
+        (λ stops. stops ≡ (is_must pair.now.kind && forbids (order_with graph.now adds.old) pair.now)) }
+    ensures order { IfOk result (λ stops. stops ≡ false
+        → order_with graph.now adds.new ≡ with_must (order_with graph.now adds.old) pair.now) }
     ensures adds { OnOk result (CanBeAdded graph.now adds.new) }
     ensures room { scratch.new ≡ scratch.old }
+    ensures grows { length adds.new ≤ length adds.old + must_one pair.now }
+    ensures least { steps.old ≤ steps.new }
+    ensures most { steps.new
+        ≤ steps.old + twice_each (must_one pair.now) (search_most graph.now (length adds.old)) }
 {
     match pair.kind {
         Kind::Must => {
@@ -101,9 +112,14 @@ fn add_prefer<L: Ledger>(
     requires pair { IsPairHeld graph.now.vertices pair.now }
     requires adds { CanBeAdded graph.now adds.old }
     ensures outcome { IfOk result (λ outcome. outcome ≡ outcome_of (order_with graph.now adds.old) pair.now) }
-    ensures order { OnOk result (order_with graph.now adds.new ≡ with_prefer (order_with graph.now adds.old) pair.now) }
+    ensures order { OnOk result
+        (order_with graph.now adds.new ≡ with_prefer (order_with graph.now adds.old) pair.now) }
     ensures adds { OnOk result (CanBeAdded graph.now adds.new) }
     ensures room { scratch.new ≡ scratch.old }
+    ensures grows { length adds.new ≤ length adds.old + prefer_one pair.now }
+    ensures least { steps.old ≤ steps.new }
+    ensures most { steps.new
+        ≤ steps.old + twice_each (prefer_one pair.now) (search_most graph.now (length adds.old)) }
 {
     match pair.kind {
         Kind::Must => Ok(Outcome::Kept),
@@ -133,9 +149,15 @@ pub(crate) fn add_musts<L: Ledger>(
     requires batch { IsBatchHeld graph.now.vertices batch.now }
     requires adds { CanBeAdded graph.now adds.old }
     ensures found { IfOk result (λ found. found ≡ contradicts (order_with graph.now adds.old) batch.now) }
-    ensures order { IfOk result (λ found. found ≡ None → order_with graph.now adds.new ≡ musts_from (order_with graph.now adds.old) batch.now) }
+    ensures order { IfOk result (λ found. found ≡ None
+        → order_with graph.now adds.new ≡ musts_from (order_with graph.now adds.old) batch.now) }
     ensures adds { OnOk result (CanBeAdded graph.now adds.new) }
     ensures room { scratch.new ≡ scratch.old }
+    ensures grows { length adds.new ≤ length adds.old + musts_in batch.now }
+    ensures least { steps.old ≤ steps.new }
+    ensures most { steps.new
+        ≤ steps.old + twice_each (musts_in batch.now)
+        (search_most graph.now (length adds.old + musts_in batch.now)) }
 {
     for (i, pair) in batch.iter().enumerate() {
         if add_must(graph, adds, scratch, pair, steps)? {
@@ -159,9 +181,15 @@ pub(crate) fn add_prefers<L: Ledger>(
     requires batch { IsBatchHeld graph.now.vertices batch.now }
     requires adds { CanBeAdded graph.now adds.old }
     ensures outcomes { IfOk result (λ outcomes. outcomes ≡ outcomes_from (order_with graph.now adds.old) batch.now) }
-    ensures order { OnOk result (order_with graph.now adds.new ≡ prefers_from (order_with graph.now adds.old) batch.now) }
+    ensures order { OnOk result
+        (order_with graph.now adds.new ≡ prefers_from (order_with graph.now adds.old) batch.now) }
     ensures adds { OnOk result (CanBeAdded graph.now adds.new) }
     ensures room { scratch.new ≡ scratch.old }
+    ensures grows { length adds.new ≤ length adds.old + prefers_in batch.now }
+    ensures least { steps.old ≤ steps.new }
+    ensures most { steps.new
+        ≤ steps.old + twice_each (prefers_in batch.now)
+        (search_most graph.now (length adds.old + prefers_in batch.now)) }
 {
     let mut outcomes = Outcomes::new(alloc);
     for pair in batch {

@@ -8,7 +8,7 @@ use Rattle.std.proofs.lemmas.List.Elements.{All-nil, recursion_from_All}
 use Rattle.kr_order.specs.declared.ids.EventId.{EventId}
 use Rattle.kr_order.specs.declared.batch.Pair.{Pair}
 use Rattle.kr_order.specs.declared.history.Command.{Command}
-use Rattle.kr_order.specs.declared.history.Command.TheVariants.{Create, Assign}
+use Rattle.kr_order.specs.declared.history.Command.TheVariants.{Create, Assign, Acquire, Release}
 use Rattle.kr_order.specs.Order.{reach}
 use Rattle.kr_order.specs.Batch.{is_must, forbids, with_pair, with_must, with_prefer, musts_from, prefers_from, contradicts_from, contradicts, pairs_with}
 use Rattle.kr_order.specs.Agreed.{first_unknown, accepts, pairs_after}
@@ -19,7 +19,7 @@ use Rattle.batch_assign.specs.Plan.{IsPairHeld, order_with, CanBeAdded}
 use Rattle.batch_assign.proofs.AddLemmas.{CanBeAdded-push}
 use Rattle.batch_assign.proofs.KnownLemmas.{IsBatchHeld-known}
 use Rattle.order_state.specs.Ordered.{IsOrder}
-use Rattle.order_state.proofs.OrderLemmas.{agreed_by, live_are_held}
+use Rattle.order_state.proofs.OrderLemmas.{agreed_by}
 
 -- the order is that of the graph, with pairs that can be added to it
 record Extends (graph : GraphView) (order : List (ℕ × ℕ)) : Type 0 where
@@ -82,6 +82,8 @@ Extends-prefers graph order (pair ∷ more) held before =
 -- the order after a command
 Extends-after : (born : ℕ) (counts : List (ℕ × ℕ)) (graph : GraphView) (command : Command) → IsOrder born counts graph → Extends graph (pairs_after command (agreed_by born counts graph.pairs))
 Extends-after born counts graph Create order = Extends-refl graph
+Extends-after born counts graph (Acquire event) order = Extends-refl graph
+Extends-after born counts graph (Release event) order = Extends-refl graph
 Extends-after born counts graph (Assign batch) order = by_test (accepts (agreed_by born counts graph.pairs) batch) refl
   where
     by_test : (taken : Bool) → accepts (agreed_by born counts graph.pairs) batch ≡ taken → Extends graph (cond taken (pairs_with graph.pairs batch) graph.pairs)
@@ -89,7 +91,7 @@ Extends-after born counts graph (Assign batch) order = by_test (accepts (agreed_
         let both = and_parts (is_none (first_unknown (agreed_by born counts graph.pairs) batch)) (is_none (contradicts graph.pairs batch)) is in
         let known = none_by_test (first_unknown (agreed_by born counts graph.pairs) batch) both.0 in
         let agreeing = none_by_test (contradicts graph.pairs batch) both.1 in
-        let held = recursion_from_All (IsPairHeld graph.vertices) batch (IsBatchHeld-known counts graph.vertices batch (live_are_held born counts graph order) known) in
+        let held = recursion_from_All (IsPairHeld graph.vertices) batch (IsBatchHeld-known counts graph.vertices batch order.live known) in
         Extends-prefers graph (musts_from graph.pairs batch) batch held (Extends-musts 0 graph graph.pairs batch held agreeing (Extends-refl graph))
     by_test false is = Extends-refl graph
 

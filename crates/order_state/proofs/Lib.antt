@@ -1,3 +1,6 @@
-pub mod StateLemmas
+pub mod TwinLemmas
+pub mod HeldLemmas
+pub mod TellLemmas
 pub mod OrderLemmas
 pub mod FitLemmas
+pub mod StateLemmas

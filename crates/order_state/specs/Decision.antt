@@ -1,14 +1,14 @@
 -- What a command is to do, before it is done: its reply, and the pairs that it adds to the order.
-use Rattle.std.specs.Prelude.{◌≡◌, ◌++◌, ℕ, ◌+◌, Option, None, Some, List, []}
+use Rattle.std.specs.Prelude.{◌≡◌, ◌++◌, ℕ, ◌+◌, ◌-◌, Option, None, Some, List, []}
 use Rattle.kr_order.specs.declared.ids.EventId.{EventId}
 use Rattle.kr_order.specs.declared.batch.Pair.{Pair}
 use Rattle.kr_order.specs.declared.history.Command.{Command}
-use Rattle.kr_order.specs.declared.history.Command.TheVariants.{Create, Assign}
+use Rattle.kr_order.specs.declared.history.Command.TheVariants.{Create, Assign, Acquire, Release}
 use Rattle.kr_order.specs.declared.history.Reply.{Reply}
 use Rattle.kr_order.specs.declared.history.Reply.TheVariants.{Created}
 use Rattle.kr_order.specs.Batch.{contradicts, pairs_with, outcomes_of}
 use Rattle.kr_order.specs.Agreed.{Agreed, first_unknown, pairs_after}
-use Rattle.kr_order.specs.Reply.{batch_reply}
+use Rattle.kr_order.specs.Reply.{batch_reply, count_reply}
 use Rattle.reach.specs.Search.{numbered}
 use Rattle.batch_assign.specs.declared.adds.Plan.{Plan}
 use Rattle.batch_assign.specs.declared.adds.BatchStop.{BatchStop}
@@ -24,6 +24,8 @@ adds_of (Some plan) = numbered plan.adds
 abbrev pub reply_from : Agreed → Command → Reply
 reply_from agreed Create = Created (record { 0 = agreed.born + 1 })
 reply_from agreed (Assign batch) = batch_reply agreed batch
+reply_from agreed (Acquire event) = count_reply (agreed.count event.0) (agreed.count event.0 + 1)
+reply_from agreed (Release event) = count_reply (agreed.count event.0) (agreed.count event.0 - 1)
 
 -- the plan of a batch that is accepted
 pub record IsPlan (agreed : Agreed) (batch : List Pair) (plan : Plan) : Type 0 where

@@ -7,12 +7,13 @@ use Rattle.std.specs.HashMap.{get, HashMap}
 use Rattle.kr_order.specs.declared.history.Entry.{Entry}
 use Rattle.kr_order.specs.declared.history.DoneEntry.{DoneEntry}
 use Rattle.kr_order.specs.History.{births_of}
-use Rattle.kr_order.specs.Agreed.{Agreed, pairs_after, agreed_of}
+use Rattle.kr_order.specs.Agreed.{pairs_after, agreed_of}
 use Rattle.kr_order.specs.Pairs.{pairs_of}
 use Rattle.kr_order.specs.Reply.{reply_to}
 use Rattle.kr_order.specs.Done.{done_after, done_of, last_of}
 use Rattle.order_state.specs.declared.kept.Kept.{Kept}
 use Rattle.order_state.specs.declared.kept.Prepared.{Prepared}
+use Rattle.order_state.specs.Ordered.{Ordered, IsOrderOf}
 use Rattle.order_state.specs.Decision.{adds_of}
 use Rattle.order_state.specs.Standing.{Standing}
 
@@ -24,12 +25,14 @@ kept_of done = record { seq = done.entry.seq; place = done.place; reply = done.r
 pub record IsReady (standing : Standing) (prepared : Prepared) : Type 0 where
   pub reply : prepared.reply ≡ reply_to standing.history prepared.entry.command
   pub kept : prepared.kept ≡ kept_of (done_after standing.history prepared.entry)
-  pub adds : pairs_after prepared.entry.command (agreed_of standing.history) ≡ pairs_of standing.history ++ adds_of prepared.plan
+  pub adds : pairs_after prepared.entry.command (agreed_of standing.history) ≡
+      pairs_of standing.history ++ adds_of prepared.plan
   pub room : 1 ≤ standing.room
   pub event_room : births_of prepared.entry.command ≤ standing.event_room
   pub pair_room : length (adds_of prepared.plan) ≤ standing.pair_room
 
--- what is agreed on is what the history comes to, and the table has what is kept of each client's last entry
-pub record IsKeptOf (history : List Entry) (agreed : Agreed) (table : HashMap ℕ Kept (BuildHasherDefault FoldHasher)) : Type 0 where
-  pub order : agreed ≡ agreed_of history
-  pub found : (client : ℕ) → get nat_eq table client ≡ option_map kept_of (last_of (record { 0 = client }) (done_of history))
+-- the order is what is held of the history, and the table has what is kept of each client's last entry
+pub record IsKeptOf (history : List Entry) (held : Ordered) (table : HashMap ℕ Kept (BuildHasherDefault FoldHasher)) : Type 0 where
+  pub order : IsOrderOf history held
+  pub found : (client : ℕ) →
+      get nat_eq table client ≡ option_map kept_of (last_of (record { 0 = client }) (done_of history))

@@ -3,10 +3,12 @@
 ghost use Rattle.std.specs.Prelude.{◌≡◌, ◌+◌, ◌^◌, ◌<◌, ◌≤◌, ◌∷◌, ◌++◌, [], List, length, map, IfOk, OnOk, OnErr};
 ghost use Rattle.std.specs.Option.{option_map};
 ghost use Rattle.kr_order.specs.declared.history.Entry.{Entry};
+ghost use Rattle.kr_order.specs.Held.{held_events, held_pairs};
 ghost use Rattle.kr_order.specs.Reply.{reply_to};
+ghost use Rattle.kr_order.specs.Answer.{answers_after};
 ghost use Rattle.kr_order.specs.Done.{done_of, last_of};
 ghost use Rattle.order_state.specs.Kept.{kept_of};
-ghost use Rattle.order_state.specs.Board.{answers_after, told_after};
+ghost use Rattle.order_state.specs.Board.{told_after};
 
 use crate::{Kept, State};
 use kr_order::{Answers, ClientId, Copied, Entry, EventId, NoMemory, Query, Reply, Steps, Told};
@@ -45,6 +47,14 @@ pub trait Board: Drop {
     /// How many entries the history has.
     fn count(&self) -> u64
         ensures { result ≡ length (stands self.now) };
+
+    /// How many events are held.
+    fn held(&self) -> u64
+        ensures { result ≡ length (held_events (stands self.now)) };
+
+    /// How many pairs are held.
+    fn pairs_held(&self) -> u64
+        ensures { result ≡ length (held_pairs (stands self.now)) };
 }
 
 /// A board over one state. It answers one query after the other.
@@ -152,5 +162,13 @@ impl Board for PlainBoard {
 
     fn count(&self) -> u64 {
         self.state.count()
+    }
+
+    fn held(&self) -> u64 {
+        self.state.held()
+    }
+
+    fn pairs_held(&self) -> u64 {
+        self.state.pairs_held()
     }
 }

@@ -15,7 +15,7 @@ use std::test::Fail;
 
 const HISTORIES: u32 = 20;
 
-const ENTRIES: u64 = 20;
+const ENTRIES: u64 = 30;
 
 const MOST_IN_BATCH: u64 = 6;
 
@@ -76,14 +76,15 @@ impl Dice {
         Ok(batch)
     }
 
-    // A command: a create for every second one, up to twelve events, or a batch.
+    // A command: of eight three creates, up to twelve events, two batches, an acquire and two releases.
     fn command(&mut self, alloc: Global, born: u64) -> Result<Command, PushStop>
         requires { born ≤ 12 }
     {
-        if born < MOST_EVENTS && self.roll(2) == 0 {
-            Ok(Command::Create)
-        } else {
-            Ok(Command::Assign(self.batch(alloc, born)?))
+        match self.roll(8) {
+            0..=2 if born < MOST_EVENTS => Ok(Command::Create),
+            3 => Ok(Command::Acquire(self.event(born))),
+            4 | 5 => Ok(Command::Release(self.event(born))),
+            _ => Ok(Command::Assign(self.batch(alloc, born)?)),
         }
     }
 }
@@ -133,6 +134,8 @@ fn taken_alike(
     let reply = match &command {
         Command::Create => plain.create(),
         Command::Assign(batch) => plain.assign(batch)?,
+        Command::Acquire(event) => plain.acquire(*event),
+        Command::Release(event) => plain.release(*event),
     };
     let client = ClientId(1);
     let seq = state.highest(client);
@@ -149,8 +152,8 @@ fn taken_alike(
         format!(in alloc; "{reply}")?.as_str()
     );
     assert_eq!(rt;
-        (state.born(), state.pairs_held()),
-        (plain.born(), plain.pairs_held())
+        (state.born(), state.held(), state.pairs_held()),
+        (plain.born(), plain.held(), plain.pairs_held())
     );
     Ok(())
 }

@@ -23,7 +23,8 @@ pub struct Prepared {
     pub kept: Kept,
     /// What `State::apply` will answer: the reply in `kept` once more.
     pub reply: Reply,
-    /// The pairs that the entry adds to the order, where it is a batch that is accepted.
+    /// The pairs that the entry adds to the order, where it is a batch that is accepted. A release has none: what it
+    /// collects is found when it is applied.
     pub plan: Option<Plan>,
 }
 

@@ -1,14 +1,18 @@
-//! The order that a state keeps: the events that were made, their references, and the pairs between them.
+//! The order that a state keeps: the references of the live events, and the events and pairs that these hold. What no
+//! live event needs is taken out by the release that leaves it so.
 //!
-//! Contracts see an `Order` as what is agreed on, and as how many more events and pairs it can take without memory.
+//! Contracts see an `Order` as what is agreed on as far as it is held, and as how many more events and pairs it can
+//! take without memory.
 
-ghost use Rattle.std.specs.Prelude.{◌≡◌, ◌+◌, ◌*◌, ◌^◌, ◌<◌, ◌≤◌, ◌++◌, length, IfOk, IfErr, OnOk, OnErr};
-ghost use Rattle.kr_order.specs.declared.history.Command.TheVariants.{Create as CreateCommand, Assign as AssignCommand};
+ghost use Rattle.std.specs.Prelude.{◌≡◌, ◌+◌, ◌-◌, ◌*◌, ◌^◌, ◌<◌, ◌≤◌, ◌++◌, [], length, IfOk, IfErr, OnOk, OnErr};
+ghost use Rattle.kr_order.specs.declared.history.Command.TheVariants.{Create as CreateCommand, Assign as AssignCommand, Acquire as AcquireCommand, Release as ReleaseCommand};
 ghost use Rattle.kr_order.specs.History.{births_of};
-ghost use Rattle.kr_order.specs.Agreed.{nothing_agreed, both_live, pairs_after};
+ghost use Rattle.kr_order.specs.Agreed.{both_live, pairs_after};
+ghost use Rattle.kr_order.specs.Reply.{count_reply};
 ghost use Rattle.kr_order.specs.Answer.{answer_from};
 ghost use Rattle.dep_graph.specs.GraphView.{CanAddAll};
-ghost use Rattle.order_state.specs.Ordered.{agreed_in, agreed_with};
+ghost use Rattle.ref_collect.specs.Counts.{count_of};
+ghost use Rattle.order_state.specs.Ordered.{agreed_in, Becomes, CanCountOn, IsOrderOf};
 ghost use Rattle.order_state.specs.Decision.{adds_of, IsPlan, IsStop, IsDecision};
 
 use crate::kept::Decision;
@@ -16,12 +20,12 @@ use batch_assign::{BatchStop, Plan, commit};
 use dep_graph::Graph;
 use kr_order::{Answer, Batch, Command, EventId, NoMemory, Reply, Steps};
 use reach::{Scratch, answer_over};
-use ref_collect::Refs;
+use ref_collect::{Refs, collect};
 use std::alloc::Global;
 use std::marker::Model;
 use std::sync::ledger::Ledger;
 
-/// The order of the events that were made.
+/// The order of the events that are held.
 #[derive(Debug, Drop)]
 pub struct Order {
     born: u64,
@@ -38,6 +42,7 @@ impl Model for Order {
     ghost view = { λ o. record {
       born = o.born;
       counts = o.refs.counts;
+      events = o.graph.vertices;
       pairs = o.graph.pairs;
       cells = length o.graph.slots;
       event_room = min o.graph.spare_vertices o.refs.spare;
@@ -53,6 +58,7 @@ fn carry_out(graph: &mut Graph, plan: Option<Plan>)
     requires room { length (adds_of plan) ≤ graph.old.spare_pairs }
     ensures pairs { graph.new.pairs ≡ graph.old.pairs ++ adds_of plan }
     ensures vertices { graph.new.vertices ≡ graph.old.vertices }
+    ensures bare { graph.new.bare ≡ graph.old.bare }
     ensures slots { graph.new.slots ≡ graph.old.slots }
     ensures spare_vertices { graph.new.spare_vertices ≡ graph.old.spare_vertices }
     ensures spare_pairs { graph.old.spare_pairs ≤ graph.new.spare_pairs + length (adds_of plan) }
@@ -65,10 +71,21 @@ fn carry_out(graph: &mut Graph, plan: Option<Plan>)
     }
 }
 
+// What is told of an event that has so many references, and now has another number of them.
+fn counted(before: u64, now: u64) -> Reply
+    ensures { result ≡ count_reply before now }
+{
+    if 0 < before {
+        Reply::Count(now)
+    } else {
+        Reply::Unknown(0)
+    }
+}
+
 impl Order {
     /// The order without an event. It takes no memory.
     pub fn new(alloc: Global) -> Self
-        ensures { agreed_in result ≡ nothing_agreed }
+        ensures { IsOrderOf [] result }
     {
         Order {
             born: 0,
@@ -79,7 +96,10 @@ impl Order {
 
     /// Makes room for so many more events and pairs.
     pub fn reserve(&mut self, events: usize, pairs: usize) -> Result<(), NoMemory>
-        ensures agreed { agreed_in self.new ≡ agreed_in self.old }
+        ensures born { self.new.born ≡ self.old.born }
+        ensures counts { self.new.counts ≡ self.old.counts }
+        ensures events { self.new.events ≡ self.old.events }
+        ensures pairs { self.new.pairs ≡ self.old.pairs }
         ensures cells { self.new.cells ≡ self.old.cells }
         ensures event_room { OnOk result (events ≤ self.new.event_room) }
         ensures pair_room { OnOk result (pairs ≤ self.new.pair_room) }
@@ -95,9 +115,9 @@ impl Order {
     fn create(&mut self)
         requires few { self.old.born < 2 ^ 58 }
         requires room { 1 ≤ self.old.event_room }
-        ensures agreed { agreed_in self.new ≡ agreed_with CreateCommand (agreed_in self.old) }
+        ensures becomes { Becomes CreateCommand self.old self.new }
         ensures event_room { self.old.event_room ≤ self.new.event_room + 1 }
-        ensures pair_room { self.new.pair_room ≡ self.old.pair_room }
+        ensures pair_room { self.old.pair_room ≤ self.new.pair_room }
     {
         self.born += 1;
         let id = EventId(self.born);
@@ -105,19 +125,45 @@ impl Order {
         self.refs.birth(id);
     }
 
+    // Gives the event one more reference, if it is live.
+    fn acquire(&mut self, event: EventId)
+        requires { CanCountOn self.old }
+        ensures becomes { Becomes (AcquireCommand event) self.old self.new }
+        ensures event_room { self.old.event_room ≤ self.new.event_room }
+        ensures pair_room { self.old.pair_room ≤ self.new.pair_room }
+    {
+        let _ = self.refs.acquire(event);
+    }
+
+    // Takes one reference from the event, and at the last lets go of all that no live event needs.
+    fn release(&mut self, event: EventId)
+        ensures becomes { Becomes (ReleaseCommand event) self.old self.new }
+        ensures event_room { self.old.event_room ≤ self.new.event_room }
+        ensures pair_room { self.old.pair_room ≤ self.new.pair_room }
+    {
+        let is_last = self.refs.count(event) == 1;
+        let _ = self.refs.release(event);
+        if is_last {
+            let _ = collect(&mut self.graph, &self.refs, event);
+        }
+    }
+
     /// Does what was decided on the command. It takes no memory.
     pub fn apply(&mut self, command: &Command, plan: Option<Plan>)
         requires few { self.old.born < 2 ^ 58 }
+        requires counts { CanCountOn self.old }
         requires adds { pairs_after command.now (agreed_in self.old) ≡ self.old.pairs ++ adds_of plan }
         requires event_room { births_of command.now ≤ self.old.event_room }
         requires pair_room { length (adds_of plan) ≤ self.old.pair_room }
-        ensures agreed { agreed_in self.new ≡ agreed_with command.now (agreed_in self.old) }
+        ensures becomes { Becomes command.now self.old self.new }
         ensures event_room { self.old.event_room ≤ self.new.event_room + births_of command.now }
         ensures pair_room { self.old.pair_room ≤ self.new.pair_room + length (adds_of plan) }
     {
         match command {
             Command::Create => self.create(),
             Command::Assign(_) => carry_out(&mut self.graph, plan),
+            Command::Acquire(event) => self.acquire(*event),
+            Command::Release(event) => self.release(*event),
         }
     }
 
@@ -164,6 +210,23 @@ impl Order {
         }
     }
 
+    /// What an acquire of the event is told.
+    pub fn acquired(&self, event: EventId) -> Reply
+        requires { CanCountOn self.now }
+        ensures { result ≡ count_reply (count_of self.now.counts event.0) (count_of self.now.counts event.0 + 1) }
+    {
+        let count = self.refs.count(event);
+        counted(count, count + 1)
+    }
+
+    /// What a release of the event is told.
+    pub fn released(&self, event: EventId) -> Reply
+        ensures { result ≡ count_reply (count_of self.now.counts event.0) (count_of self.now.counts event.0 - 1) }
+    {
+        let count = self.refs.count(event);
+        counted(count, count.saturating_sub(1))
+    }
+
     /// Makes room in the scratch for a search in the order. After `NoMemory` the room is as before.
     pub fn fit(&self, scratch: &mut Scratch) -> Result<(), NoMemory>
         ensures ok { OnOk result (self.now.cells ≤ scratch.new) }
@@ -183,7 +246,7 @@ impl Order {
     ) -> Answer
         requires { self.now.cells ≤ scratch.old }
         ensures value { result ≡ answer_from (agreed_in self.now) a.0 b.0 }
-        ensures most { steps.new ≤ steps.old + 2 * (self.now.born + length self.now.pairs) }
+        ensures most { steps.new ≤ steps.old + 2 * (length self.now.events + length self.now.pairs) }
         ensures room { scratch.new ≡ scratch.old }
     {
         if !self.are_live(a, b) {
@@ -206,14 +269,14 @@ impl Order {
         self.born
     }
 
-    /// How many events the graph holds: while no event is taken out of it, all that were made.
+    /// How many events are held.
     pub fn held(&self) -> u64
-        ensures { result ≡ self.now.born }
+        ensures { result ≡ length self.now.events }
     {
         self.graph.held()
     }
 
-    /// How many pairs the graph holds.
+    /// How many pairs are held.
     pub fn pairs_held(&self) -> u64
         ensures { result ≡ length self.now.pairs }
     {

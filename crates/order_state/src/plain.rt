@@ -1,5 +1,5 @@
-//! The order as one list of pairs, and what batches and answers come to by passes over it, for as many events as
-//! the tests make. A test compares a state with it.
+//! The order as a list of pairs and a list of counts, from which nothing is taken out, and what commands and answers
+//! come to by passes over them, for as many events as the tests make. A test compares a state with it.
 
 use kr_order::{Answer, Batch, EventId, Kind, NoMemory, Outcome, Outcomes, Pair, Reply};
 use std::alloc::Global;
@@ -7,11 +7,13 @@ use std::alloc::Global;
 /// The greatest number of an event.
 pub const MOST_EVENTS: u64 = 12;
 
-/// The events 1 up to a number, and pairs of them.
+/// The events 1 up to a number with their references, and pairs of them.
 #[derive(Drop)]
 pub struct Plain {
     alloc: Global,
     born: u64,
+    // an event's references, by its number
+    counts: [u64; 13],
     pairs: Vec<(u64, u64)>,
 }
 
@@ -109,6 +111,7 @@ impl Plain {
         Plain {
             alloc,
             born: 0,
+            counts: [0; 13],
             pairs: Vec::new(alloc),
         }
     }
@@ -116,19 +119,51 @@ impl Plain {
     /// The next event is made.
     pub fn create(&mut self) -> Reply {
         self.born = self.born.wrapping_add(1);
+        if let Some(count) = self.counts.get_mut(self.born as usize) {
+            *count = 1;
+        }
         Reply::Created(EventId(self.born))
     }
 
-    // Whether the event was made.
-    fn is_made(&self, event: EventId) -> bool {
-        1 <= event.0 && event.0 <= self.born
+    // The event's references.
+    fn count(&self, event: u64) -> u64 {
+        match self.counts.get(event as usize) {
+            Some(count) => *count,
+            None => 0,
+        }
     }
 
-    // The index of the first pair with an event that was not made.
+    // Whether the event is live.
+    fn is_live(&self, event: EventId) -> bool {
+        0 < self.count(event.0)
+    }
+
+    // The event has so many references now, if it is live.
+    fn counted(&mut self, event: EventId, now: u64) -> Reply {
+        if !self.is_live(event) {
+            return Reply::Unknown(0);
+        }
+        if let Some(count) = self.counts.get_mut(event.0 as usize) {
+            *count = now;
+        }
+        Reply::Count(now)
+    }
+
+    /// One reference more.
+    pub fn acquire(&mut self, event: EventId) -> Reply {
+        self.counted(event, self.count(event.0).wrapping_add(1))
+    }
+
+    /// One reference less.
+    pub fn release(&mut self, event: EventId) -> Reply {
+        self.counted(event, self.count(event.0).wrapping_sub(1))
+    }
+
+    // The index of the first pair with an event that is not live.
     fn first_unknown(&self, batch: &[Pair]) -> Option<u32> {
         let mut index: u32 = 0;
         for pair in batch {
-            if !(self.is_made(pair.first) && self.is_made(pair.second)) {
+            if !(self.is_live(pair.first) && self.is_live(pair.second)) {
                 return Some(index);
             }
             index = index.wrapping_add(1);
@@ -153,7 +188,7 @@ impl Plain {
 
     /// How `a` stands to `b`.
     pub fn answer(&self, a: EventId, b: EventId) -> Answer {
-        if !(self.is_made(a) && self.is_made(b)) {
+        if !(self.is_live(a) && self.is_live(b)) {
             Answer::Unknown
         } else if a.0 == b.0 {
             Answer::Same
@@ -166,9 +201,32 @@ impl Plain {
         }
     }
 
-    /// How many pairs there are.
+    // Whether the event is live, or a live event is before it.
+    fn is_held(&self, event: u64) -> bool {
+        let mut held = false;
+        for root in 1..MOST_EVENTS + 1 {
+            let is_root = root == event || leads(self.pairs.as_slice(), root, event);
+            held |= self.is_live(EventId(root)) && is_root;
+        }
+        held
+    }
+
+    /// How many events are held.
+    pub fn held(&self) -> u64 {
+        let mut held: u64 = 0;
+        for event in 1..MOST_EVENTS + 1 {
+            held = held.wrapping_add(u64::from(self.is_held(event)));
+        }
+        held
+    }
+
+    /// How many pairs begin at an event that is held.
     pub fn pairs_held(&self) -> u64 {
-        self.pairs.len() as u64
+        let mut held: u64 = 0;
+        for (first, _) in &self.pairs {
+            held = held.wrapping_add(u64::from(self.is_held(*first)));
+        }
+        held
     }
 
     /// How many events were made.

@@ -1,10 +1,10 @@
-//! The state: the entries of the history, the order that they come to, and each client's last entry.
+//! The state: the entries of the history, what is held of the order that they come to, and each client's last entry.
 
 ghost use Rattle.std.specs.Prelude.{◌≡◌, ◌+◌, ◌^◌, ◌<◌, ◌≤◌, [], ◌∷◌, ◌++◌, length, IfOk, OnOk};
 ghost use Rattle.std.specs.Option.{option_copied, option_map};
 ghost use Rattle.kr_order.specs.History.{births_of, born_in};
 ghost use Rattle.kr_order.specs.Agreed.{agreed_of};
-ghost use Rattle.kr_order.specs.Pairs.{pairs_of};
+ghost use Rattle.kr_order.specs.Held.{held_events, held_pairs};
 ghost use Rattle.kr_order.specs.Reply.{reply_to};
 ghost use Rattle.kr_order.specs.Done.{done_of, last_of, seq_of};
 ghost use Rattle.order_state.specs.Kept.{kept_of, IsReady};
@@ -36,7 +36,6 @@ impl Model for State {
     ghost use Rattle.std.specs.Prelude.{◌-◌, min, vec_len};
     ghost use Rattle.std.specs.Vec.{vec_capacity};
     ghost use Rattle.std.specs.HashMap.{spare};
-    ghost use Rattle.order_state.specs.Ordered.{agreed_in};
     ghost use Rattle.order_state.specs.Standing.{Standing};
     ghost use Rattle.order_state.specs.Kept.{IsKeptOf};
 
@@ -50,7 +49,7 @@ impl Model for State {
       pair_room = s.order.pair_room;
     } };
 
-    ghost invariant = { λ s. IsKeptOf s.entries.items (agreed_in s.order) s.last };
+    ghost invariant = { λ s. IsKeptOf s.entries.items s.order s.last };
 }
 
 // How many events the command makes.
@@ -59,7 +58,7 @@ fn births(command: &Command) -> usize
 {
     match command {
         Command::Create => 1,
-        Command::Assign(_) => 0,
+        Command::Assign(_) | Command::Acquire(_) | Command::Release(_) => 0,
     }
 }
 
@@ -107,6 +106,7 @@ impl State {
         requires name { blank.name ≡ L.name }
         requires parts { blank.parts ≡ L.parts }
         requires some { 0 < blank.parts }
+        requires few { length self.old.history < 2 ^ 58 }
         ensures state { self.new ≡ self.old }
         ensures decision { IfOk result (IsDecision (agreed_of self.old.history) command.now) }
     {
@@ -122,6 +122,14 @@ impl State {
                 self.order
                     .decide(alloc, batch, &mut self.scratch, &mut steps)
             }
+            Command::Acquire(event) => Ok(Decision {
+                reply: self.order.acquired(*event),
+                plan: None,
+            }),
+            Command::Release(event) => Ok(Decision {
+                reply: self.order.released(*event),
+                plan: None,
+            }),
         }
     }
 
@@ -214,16 +222,16 @@ impl State {
         self.order.born()
     }
 
-    /// How many events the order has: all that the history has made.
+    /// How many events are held: those that are live, and those that a live event is before.
     pub fn held(&self) -> u64
-        ensures { result ≡ born_in self.now.history }
+        ensures { result ≡ length (held_events self.now.history) }
     {
         self.order.held()
     }
 
-    /// How many pairs the order has.
+    /// How many pairs are held: those whose first event is.
     pub fn pairs_held(&self) -> u64
-        ensures { result ≡ length (pairs_of self.now.history) }
+        ensures { result ≡ length (held_pairs self.now.history) }
     {
         self.order.pairs_held()
     }
@@ -231,16 +239,15 @@ impl State {
 
 impl Asks for State {
     ghost use Rattle.std.specs.Prelude.{length};
-    ghost use Rattle.kr_order.specs.History.{born_in};
-    ghost use Rattle.kr_order.specs.Pairs.{pairs_of};
+    ghost use Rattle.kr_order.specs.Held.{held_events, held_pairs};
 
     ghost history = { λ s. s.history };
 
     ghost cells = { λ s. s.cells };
 
-    ghost held = { λ s. born_in s.history };
+    ghost held = { λ s. length (held_events s.history) };
 
-    ghost pairs_held = { λ s. length (pairs_of s.history) };
+    ghost pairs_held = { λ s. length (held_pairs s.history) };
 
     fn fit(&self, scratch: &mut Scratch) -> Result<(), NoMemory> {
         self.order.fit(scratch)

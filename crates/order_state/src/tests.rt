@@ -199,3 +199,65 @@ fn a_shop_orders_its_events(rt: HostRuntime) -> Result<(), Fail> {
     all_answers::<Brand>(&rt, rt.alloc(), &state, &rows, Blank::new(1))?;
     Ok(())
 }
+
+#[test]
+fn a_pair_that_is_said_already_is_not_held_twice(rt: HostRuntime) -> Result<(), Fail> {
+    let alloc = rt.alloc();
+    let mut state = State::new(alloc);
+    done(&rt, alloc, &mut state, 1, Command::Create, "created 1")?;
+    done(&rt, alloc, &mut state, 1, Command::Create, "created 2")?;
+    let rows: [(&[(u64, Kind, u64)], &str); 3] = [
+        (&[(1, MUST, 2)], "assigned kept"),
+        (&[(1, MUST, 2)], "assigned kept"),
+        (&[(2, MUST, 1)], "contradicts 0"),
+    ];
+    for (pairs, text) in rows {
+        done(&rt, alloc, &mut state, 1, assign(alloc, pairs)?, text)?;
+    }
+    assert_eq!(rt; (state.held(), state.pairs_held()), (2, 1));
+    Ok(())
+}
+
+#[test]
+fn a_dead_event_is_held_until_no_live_one_is_before_it(rt: HostRuntime) -> Result<(), Fail> {
+    let alloc = rt.alloc();
+    let mut state = State::new(alloc);
+    for text in ["created 1", "created 2", "created 3"] {
+        done(&rt, alloc, &mut state, 1, Command::Create, text)?;
+    }
+    let chain = assign(alloc, &[(1, MUST, 2), (2, MUST, 3)])?;
+    done(&rt, alloc, &mut state, 1, chain, "assigned kept kept")?;
+    let release = Command::Release(EventId(2));
+    done(&rt, alloc, &mut state, 1, release, "count 0")?;
+    assert_eq!(rt; (state.held(), state.pairs_held()), (3, 2));
+    let rows = [(1, 3, Answer::Before), (1, 2, Answer::Unknown)];
+    all_answers::<Brand>(&rt, alloc, &state, &rows, Blank::new(1))?;
+    let release = Command::Release(EventId(1));
+    done(&rt, alloc, &mut state, 1, release, "count 0")?;
+    assert_eq!(rt; (state.held(), state.pairs_held()), (1, 0));
+    let rows = [(1, 3, Answer::Unknown), (3, 3, Answer::Same)];
+    all_answers::<Brand>(&rt, alloc, &state, &rows, Blank::new(1))?;
+    Ok(())
+}
+
+#[test]
+fn a_dead_event_is_unknown_for_good(rt: HostRuntime) -> Result<(), Fail> {
+    let alloc = rt.alloc();
+    let mut state = State::new(alloc);
+    let event = EventId(1);
+    done(&rt, alloc, &mut state, 1, Command::Create, "created 1")?;
+    let acquire = Command::Acquire(event);
+    done(&rt, alloc, &mut state, 1, acquire, "count 2")?;
+    for text in ["count 1", "count 0", "unknown 0"] {
+        done(&rt, alloc, &mut state, 1, Command::Release(event), text)?;
+    }
+    let acquire = Command::Acquire(event);
+    done(&rt, alloc, &mut state, 1, acquire, "unknown 0")?;
+    let beside_itself = assign(alloc, &[(1, MUST, 1)])?;
+    done(&rt, alloc, &mut state, 1, beside_itself, "unknown 0")?;
+    let rows = [(1, 1, Answer::Unknown)];
+    all_answers::<Brand>(&rt, alloc, &state, &rows, Blank::new(1))?;
+    done(&rt, alloc, &mut state, 1, Command::Create, "created 2")?;
+    assert_eq!(rt; (state.born(), state.held()), (2, 1));
+    Ok(())
+}

@@ -1,1 +1,4 @@
+pub mod NeededLemmas
+pub mod RootLemmas
+pub mod WaitingLemmas
 pub mod CountLemmas

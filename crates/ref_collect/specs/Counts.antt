@@ -1,8 +1,8 @@
 -- What contracts see of the references of events.
-use Rattle.std.specs.Prelude.{ℕ, ◌<◌, ◌==◌, if◌then◌else◌, List, [], ◌∷◌}
+use Rattle.std.specs.Prelude.{ℕ, ◌<◌, ◌+◌, ◌-◌, ◌==◌, nat_lt, if◌then◌else◌, Option, None, Some, List, [], ◌∷◌}
 use Rattle.std.specs.List.{AllPairs}
 
--- each event that was born, with its count, the smallest event first; and how many more can be born without memory
+-- each live event with its count, the smallest event first; and how many more can be born without memory
 pub record RefsView : Type 0 where
   pub counts : List (ℕ × ℕ)
   pub spare : ℕ

@@ -1,9 +1,10 @@
-//! The references: the events that were born, in rising order, each with its count.
+//! The references: the live events, in rising order, each with its count.
 
-ghost use Rattle.std.specs.Prelude.{◌≡◌, ◌<◌, ◌≤◌, ◌+◌, ◌==◌, ℕ, if◌then◌else◌, [], ◌∷◌, ◌++◌, OnOk};
+ghost use Rattle.std.specs.Prelude.{◌≡◌, ◌<◌, ◌≤◌, ◌+◌, ◌-◌, ◌^◌, ◌==◌, ◌&&◌, nat_lt, ℕ, if◌then◌else◌, [], ◌∷◌, ◌++◌, map, OnOk, Some, None, IfNone};
 ghost use Rattle.std.specs.List.{All};
 ghost use Rattle.ref_collect.specs.Counts.{count_of, AreRising};
 
+use dep_graph::EventTable;
 use kr_order::{EventId, NoMemory};
 use std::alloc::Global;
 use std::marker::Model;
@@ -11,31 +12,20 @@ use std::marker::Model;
 /// The references of events.
 #[derive(Debug, Drop)]
 pub struct Refs {
-    // an event and its count, the smallest event first
-    counts: Vec<(u64, u64)>,
+    // the count of each live event
+    counts: EventTable,
 }
 
 impl Model for Refs {
-    ghost use Rattle.std.specs.Prelude.{◌-◌, vec_len};
-    ghost use Rattle.std.specs.Vec.{vec_capacity};
-    ghost use Rattle.ref_collect.specs.Counts.{RefsView, AreRising};
+    ghost use Rattle.std.specs.Prelude.{◌<◌};
+    ghost use Rattle.std.specs.List.{All};
+    ghost use Rattle.ref_collect.specs.Counts.{RefsView};
 
     ghost Value = { RefsView };
 
-    ghost view = { λ r. record { counts = r.counts.items; spare = vec_capacity r.counts - vec_len r.counts } };
+    ghost view = { λ r. record { counts = r.counts.entries; spare = r.counts.spare } };
 
-    ghost invariant = { λ r. AreRising r.counts.items };
-}
-
-// The event's count among counts of events that rise; 0 where it is none of them.
-fn count_in(counts: &[(u64, u64)], event: u64) -> u64
-    requires { AreRising counts.now }
-    ensures { result ≡ count_of counts.now event }
-{
-    match counts.binary_search_by_key(&event, |&(born, _)| born) {
-        Ok(i) => counts[i].1,
-        Err(_) => 0,
-    }
+    ghost invariant = { λ r. All (λ entry. 0 < entry.1) r.counts.entries };
 }
 
 impl Refs {
@@ -44,7 +34,7 @@ impl Refs {
         ensures { result.counts ≡ [] }
     {
         Refs {
-            counts: Vec::new(alloc),
+            counts: EventTable::new(alloc),
         }
     }
 
@@ -54,8 +44,7 @@ impl Refs {
         ensures keeps_spare { self.old.spare ≤ self.new.spare }
         ensures counts { self.new.counts ≡ self.old.counts }
     {
-        self.counts.reserve(n)?;
-        Ok(())
+        self.counts.reserve(n)
     }
 
     /// Takes in an event that has one reference. It takes no memory.
@@ -66,20 +55,71 @@ impl Refs {
         ensures count { (event : ℕ) → count_of self.new.counts event ≡ (if event == id.0 then 1 else count_of self.old.counts event) }
         ensures spare { self.old.spare ≤ self.new.spare + 1 }
     {
-        self.counts.push_reserved((id.0, 1));
+        self.counts.push(id.0, 1);
     }
 
     /// How many references the event has; 0 exactly where it is not live.
     pub fn count(&self, id: EventId) -> u64
         ensures { result ≡ count_of self.now.counts id.0 }
     {
-        count_in(self.counts.as_slice(), id.0)
+        match self.counts.get(id.0) {
+            Some(count) => count,
+            None => 0,
+        }
+    }
+
+    // Gives a live event this count; an event with none is taken out.
+    fn put(&mut self, id: EventId, count: u64)
+        requires { 0 < count_of self.old.counts id.0 }
+        ensures count { (event : ℕ) → count_of self.new.counts event ≡ (if event == id.0 then count else count_of self.old.counts event) }
+        ensures events { 0 < count → map (λ entry. entry.0) self.new.counts ≡ map (λ entry. entry.0) self.old.counts }
+        ensures below { (n : ℕ) → All (λ entry. entry.0 < n) self.old.counts → All (λ entry. entry.0 < n) self.new.counts }
+        ensures spare { self.new.spare ≡ self.old.spare }
+    {
+        if count > 0 {
+            self.counts.set(id.0, count);
+        } else {
+            self.counts.remove(id.0);
+        }
+    }
+
+    /// Gives a live event one more reference: its new count. `None` exactly where the event is not live, and then
+    /// nothing changes. It takes no memory.
+    pub fn acquire(&mut self, id: EventId) -> Option<u64>
+        requires { count_of self.old.counts id.0 + 1 < 2 ^ 64 }
+        ensures value { result ≡ (if nat_lt 0 (count_of self.old.counts id.0) then Some (count_of self.old.counts id.0 + 1) else None) }
+        ensures count { (event : ℕ) → count_of self.new.counts event ≡ (if event == id.0 && nat_lt 0 (count_of self.old.counts event) then count_of self.old.counts event + 1 else count_of self.old.counts event) }
+        ensures events { map (λ entry. entry.0) self.new.counts ≡ map (λ entry. entry.0) self.old.counts }
+        ensures none { IfNone result (self.new ≡ self.old) }
+        ensures spare { self.new.spare ≡ self.old.spare }
+    {
+        let count = self.count(id);
+        if count == 0 {
+            return None;
+        }
+        self.put(id, count + 1);
+        Some(count + 1)
+    }
+
+    /// Takes one reference from a live event: its new count. `None` exactly where the event is not live, and then
+    /// nothing changes. An event that has no reference left is dead for good. It takes no memory.
+    pub fn release(&mut self, id: EventId) -> Option<u64>
+        ensures value { result ≡ (if nat_lt 0 (count_of self.old.counts id.0) then Some (count_of self.old.counts id.0 - 1) else None) }
+        ensures count { (event : ℕ) → count_of self.new.counts event ≡ (if event == id.0 then count_of self.old.counts event - 1 else count_of self.old.counts event) }
+        ensures below { (n : ℕ) → All (λ entry. entry.0 < n) self.old.counts → All (λ entry. entry.0 < n) self.new.counts }
+        ensures none { IfNone result (self.new ≡ self.old) }
+        ensures spare { self.new.spare ≡ self.old.spare }
+    {
+        let left = self.count(id).checked_sub(1)?;
+        self.put(id, left);
+        Some(left)
     }
 
     /// What holds of all references. It does nothing.
     pub fn known(&self)
-        ensures { AreRising self.now.counts }
+        ensures rising { AreRising self.now.counts }
+        ensures live { All (λ entry. 0 < entry.1) self.now.counts }
     {
-        let _ = &self.counts;
+        self.counts.known();
     }
 }

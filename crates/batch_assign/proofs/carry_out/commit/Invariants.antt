@@ -10,6 +10,7 @@ invariant-loop-pair l = record {
   fits : CanAddAll l.graph.vertices l.graph.pairs (numbered (drop l.pair-index l.pair-items));
   spare_pairs : l.initial.graph.spare_pairs ≤ l.graph.spare_pairs + l.pair-index;
   vertices : l.graph.vertices ≡ l.initial.graph.vertices;
+  bare : l.graph.bare ≡ l.initial.graph.bare;
   slots : l.graph.slots ≡ l.initial.graph.slots;
   spare_vertices : l.graph.spare_vertices ≡ l.initial.graph.spare_vertices;
 }

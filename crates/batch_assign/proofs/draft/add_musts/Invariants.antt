@@ -1,6 +1,7 @@
-use Rattle.std.proofs.Common.{◌≡◌, drop}
+use Rattle.std.proofs.Common.{◌≡◌, length, drop}
 use Rattle.kr_order.specs.Batch.{musts_from, contradicts_from, contradicts}
-use Rattle.batch_assign.specs.Plan.{order_with, CanBeAdded}
+use Rattle.batch_assign.specs.Plan.{order_with, CanBeAdded, must_one}
+use Rattle.batch_assign.proofs.StepLemmas.{IsSpent}
 use Rattle.batch_assign.proofs.draft.add_musts.Given as goal
 
 -- what is left of the batch gives what the whole batch gives
@@ -10,4 +11,5 @@ invariant-loop-i g l = record {
   found : contradicts_from l.i (order_with l.graph l.adds) (drop l.i l.batch) ≡ contradicts (order_with l.graph l.initial.adds) l.batch;
   can : CanBeAdded l.graph l.adds;
   room : l.scratch ≡ l.initial.scratch;
+  spent : IsSpent l.graph must_one l.batch l.i (length l.initial.adds) (length l.adds) l.initial.steps l.steps;
 }

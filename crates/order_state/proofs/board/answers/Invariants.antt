@@ -1,5 +1,5 @@
 use Rattle.std.proofs.Common.{◌≡◌, take}
-use Rattle.order_state.specs.Board.{answers_after}
+use Rattle.kr_order.specs.Answer.{answers_after}
 use Rattle.order_state.proofs.board.answers.Given as goal
 
 abbrev pub invariant-loop-pair : goal.invariant-loop-pair

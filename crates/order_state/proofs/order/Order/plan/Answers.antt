@@ -3,11 +3,8 @@ use Rattle.std.specs.Prelude.{IfOk, IfErr}
 use Rattle.std.proofs.lemmas.Result.{IfOk-weaker, IfErr-weaker}
 use Rattle.order_state.specs.Ordered.{Ordered, agreed_in}
 use Rattle.order_state.specs.Decision.{IsPlan, IsStop}
-use Rattle.order_state.proofs.OrderLemmas.{live_are_held, IsPlan-agreed, IsStop-agreed}
+use Rattle.order_state.proofs.OrderLemmas.{IsPlan-agreed, IsStop-agreed}
 use Rattle.order_state.proofs.order.Order.plan.Goals as goal
-
-pub plan-requires-clause-live : goal.plan-requires-clause-live
-plan-requires-clause-live g c = live_are_held c.self.inside.born c.self.inside.refs.counts c.self.inside.graph c.self.invariant
 
 pub returns-clause-ok : goal.returns-clause-ok
 returns-clause-ok g c =
