@@ -1,13 +1,14 @@
-//! How many entries the next server is known to have, and the message with those that it may lack.
+//! How many entries the next server is known to have, and the packet with those that it may lack.
 
 ghost use Rattle.std.specs.Prelude.{◌≡◌, max, min, None, IfOk};
-ghost use Rattle.chain_link.specs.Window.{window_of};
+ghost use Rattle.kr_protocol.specs.Server.{window_of};
 
 use cmd_log::Log;
-use kr_order::{Message, NoMemory, ServerId};
+use kr_order::{Message, NoMemory, Node, Packet, Packets, ServerId};
+use std::alloc::Global;
 
 // So many entries are sent in one message at the most.
-const MOST_ENTRIES: usize = 16;
+const WINDOW_ENTRIES: usize = 16;
 
 /// The link to the next server, if there is one.
 #[derive(Clone, Copy, Debug, PartialEq, Eq)]
@@ -51,17 +52,26 @@ impl Link {
         self.fed
     }
 
-    /// The message with the entries that the next server is not known to have, the first 16 of them; `None` exactly
-    /// where there is no next server, or the log has none of these.
-    pub fn window(&self, log: &Log) -> Result<Option<Message>, NoMemory>
-        ensures { IfOk result (λ message. message ≡ window_of self.now.next self.now.fed log.now) }
+    /// The packet of this server with the entries that the next one is not known to have, the first 16 of them; none
+    /// exactly where there is no next server, or the log has none of these.
+    pub fn window(&self, alloc: Global, id: ServerId, log: &Log) -> Result<Packets, NoMemory>
+        ensures { IfOk result (λ packets. packets ≡ window_of id self.now.next self.now.fed log.now) }
     {
-        if self.next.is_none() || log.len() <= self.fed {
-            return Ok(None);
+        let mut packets = Packets::new(alloc);
+        let Some(to) = self.next else {
+            return Ok(packets);
+        };
+        if log.len() <= self.fed {
+            return Ok(packets);
         }
         let first = self.fed + 1;
-        let entries = log.suffix(first, MOST_ENTRIES)?;
-        Ok(Some(Message::Append { first, entries }))
+        let entries = log.suffix(first, WINDOW_ENTRIES)?;
+        packets.push(Packet {
+            from: Node::Server(id),
+            to: Node::Server(to),
+            message: Message::Append { first, entries },
+        })?;
+        Ok(packets)
     }
 
     /// The next server tells that its log has so many entries, and the own log has so many. What it is known to

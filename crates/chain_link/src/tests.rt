@@ -2,9 +2,8 @@
 
 use super::*;
 use cmd_log::Log;
-use kr_order::{ClientId, Command, Entries, Entry, Message, NoMemory, ServerId};
+use kr_order::{ClientId, Command, Entries, Entry, Message, NoMemory, Packets, ServerId};
 use std::alloc::Global;
-use std::process::Abort;
 use std::test::Fail;
 
 // So many creates of one client.
@@ -21,39 +20,33 @@ fn creates(alloc: Global, count: u64) -> Result<Entries, NoMemory> {
 }
 
 // The window begins at this place, and has so many entries.
-fn sends(
-    rt: &impl Abort,
-    link: &Link,
-    log: &Log,
-    place: u64,
-    count: usize,
-) -> Result<(), NoMemory> {
-    let message = link.window(log)?;
-    match &message {
-        Some(Message::Append { first, entries }) => {
-            assert_eq!(rt; (*first, entries.len()), (place, count));
-        }
-        _ => assert!(rt; false),
+fn is_window(packets: &Packets, place: u64, count: usize) -> bool {
+    match packets.as_slice() {
+        [packet] => match &packet.message {
+            Message::Append { first, entries } => *first == place && entries.len() == count,
+            _ => false,
+        },
+        _ => false,
     }
-    Ok(())
 }
 
 #[test]
 fn a_window_is_sent_until_it_is_acknowledged(rt: HostRuntime) -> Result<(), Fail> {
     let alloc = rt.alloc();
+    let own = ServerId(1);
     let mut log = Log::new(alloc);
     let taken = receive(&mut log, 1, &creates(alloc, 20)?)?;
     assert_eq!(&rt; (taken, log.len()), (20, 20));
     let mut link = Link::new();
-    assert!(&rt; link.window(&log)?.is_none());
+    assert_eq!(&rt; link.window(alloc, own, &log)?.len(), 0);
     link.aim(Some(ServerId(2)));
-    sends(&rt, &link, &log, 1, 16)?;
+    assert!(&rt; is_window(&link.window(alloc, own, &log)?, 1, 16));
     link.heard(16, log.len());
-    sends(&rt, &link, &log, 17, 4)?;
+    assert!(&rt; is_window(&link.window(alloc, own, &log)?, 17, 4));
     link.heard(3, log.len());
     assert_eq!(&rt; link.fed(), 16);
     link.heard(99, log.len());
-    assert!(&rt; link.fed() == 20 && link.window(&log)?.is_none());
+    assert!(&rt; link.fed() == 20 && link.window(alloc, own, &log)?.len() == 0);
     link.aim(Some(ServerId(3)));
     assert!(&rt; link.fed() == 0 && link.next() == Some(ServerId(3)));
     Ok(())

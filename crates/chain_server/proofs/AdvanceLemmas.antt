@@ -11,13 +11,14 @@ use Rattle.kr_order.specs.declared.view.View.{View}
 use Rattle.kr_order.specs.View.{is_tail}
 use Rattle.kr_order.specs.Done.{done_of}
 use Rattle.kr_order.proofs.HistoryLemmas.{length-done_from}
+use Rattle.kr_order.proofs.PrefixLemmas.{take_front}
 use Rattle.kr_protocol.specs.Server.{advances, lasts, reply_packet}
-use Rattle.chain_server.specs.Standing.{Standing, server_of}
-use Rattle.chain_server.specs.Whole.{IsPrefix}
+use Rattle.chain_server.specs.ServerStanding.{ServerStanding, server_of}
+use Rattle.kr_order.specs.Prefix.{IsPrefix}
 use Rattle.chain_server.specs.Calls.{Heeds}
 
 -- a server that has not failed, with so many entries acknowledged
-abbrev standing_at : ServerId → View → List Entry → ℕ → ℕ → List Query → Standing
+abbrev standing_at : ServerId → View → List Entry → ℕ → ℕ → List Query → ServerStanding
 standing_at id view log done fed waiting =
     record { server = record { id = id; log = log; done = done; view = Some view; fed = fed; waiting = waiting }; failed = false }
 
@@ -30,5 +31,5 @@ advances-heeds id view log history new fed waiting was upto committed packets wh
       whole = whole;
       after = ap (λ n. standing_at id view log n fed waiting) size;
       sent = sent ∙ ap (λ dones. cond (is_tail view id) (map (reply_packet id) (lasts dones)) []) (sym newest);
-      committed = done ∙ ap (λ h. done_of h ++ committed) prefix.is;
+      committed = done ∙ ap (λ h. done_of h ++ committed) (sym (take_front history log prefix));
     }

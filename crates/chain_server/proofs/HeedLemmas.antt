@@ -9,15 +9,15 @@ use Rattle.kr_order.specs.Done.{done_of}
 use Rattle.kr_protocol.specs.Reaction.{Reaction}
 use Rattle.kr_protocol.specs.Server.{Server, acknowledged, appended, follows, sends, ack_to, passes_on, advances_at_tail, takes_entries, window}
 use Rattle.chain_server.specs.declared.effects.Effects.{Effects}
-use Rattle.chain_server.specs.Standing.{Standing}
+use Rattle.chain_server.specs.ServerStanding.{ServerStanding}
 use Rattle.chain_server.specs.Parts.{passed_on_by}
 use Rattle.chain_server.specs.Calls.{Heeds, Does, AddsTo}
 
 -- a reaction, and then what is added to it
-pub Does-follows : (old middle : Standing) (first : Reaction Server) (goes_on : Server → Reaction Server) (before : Effects) (result : Result Effects OutOfMemory) (new : Standing) → Heeds old first before middle → AddsTo before middle (goes_on middle.server) result new → Does old (follows first goes_on) result new
+pub Does-follows : (old middle : ServerStanding) (first : Reaction Server) (goes_on : Server → Reaction Server) (before : Effects) (result : Result Effects OutOfMemory) (new : ServerStanding) → Heeds old first before middle → AddsTo before middle (goes_on middle.server) result new → Does old (follows first goes_on) result new
 Does-follows old middle first goes_on before (Err stop) new heeds adds = adds
 Does-follows old middle first goes_on before (Ok effects) new heeds adds =
-    let is : middle.server ≡ first.after = ap (λ (s : Standing). s.server) heeds.after in
+    let is : middle.server ≡ first.after = ap (λ (s : ServerStanding). s.server) heeds.after in
     let second : goes_on middle.server ≡ goes_on first.after = ap goes_on is in
     record {
       whole = heeds.whole;
@@ -27,10 +27,10 @@ Does-follows old middle first goes_on before (Ok effects) new heeds adds =
     }
 
 -- a reaction of the server with a longer log
-pub Does-grown : (old grown : Standing) (server : Server) (reacts : Server → Reaction Server) (result : Result Effects OutOfMemory) (new : Standing) → old.failed ≡ false → grown ≡ record { server = server; failed = false } → acknowledged grown.server ≡ acknowledged old.server → Does grown (reacts grown.server) result new → Does old (reacts server) result new
+pub Does-grown : (old grown : ServerStanding) (server : Server) (reacts : Server → Reaction Server) (result : Result Effects OutOfMemory) (new : ServerStanding) → old.failed ≡ false → grown ≡ record { server = server; failed = false } → acknowledged grown.server ≡ acknowledged old.server → Does grown (reacts grown.server) result new → Does old (reacts server) result new
 Does-grown old grown server reacts (Err stop) new whole is same does = does
 Does-grown old grown server reacts (Ok effects) new whole is same does =
-    let at : grown.server ≡ server = ap (λ (s : Standing). s.server) is in
+    let at : grown.server ≡ server = ap (λ (s : ServerStanding). s.server) is in
     let reacted : reacts grown.server ≡ reacts server = ap reacts at in
     record {
       whole = whole;
@@ -47,7 +47,7 @@ passes_on-count server (entry ∷ more) =
     sym (ap (λ b. cond b [] (window server)) some)
 
 -- entries were taken, acknowledged by the tail, and passed on
-pub take_append-does : (old grown middle : Standing) (from : ServerId) (entries : List Entry) (taken : ℕ) (before : Effects) (result : Result Effects OutOfMemory) (new : Standing) → old.failed ≡ false → grown ≡ record { server = appended old.server entries; failed = false } → acknowledged grown.server ≡ acknowledged old.server → taken ≡ length entries → Heeds grown (advances_at_tail grown.server) before middle → AddsTo before middle (sends middle.server (ack_to middle.server (Some from) ++ passed_on_by middle.server taken)) result new → Does old (takes_entries old.server from entries) result new
+pub take_append-does : (old grown middle : ServerStanding) (from : ServerId) (entries : List Entry) (taken : ℕ) (before : Effects) (result : Result Effects OutOfMemory) (new : ServerStanding) → old.failed ≡ false → grown ≡ record { server = appended old.server entries; failed = false } → acknowledged grown.server ≡ acknowledged old.server → taken ≡ length entries → Heeds grown (advances_at_tail grown.server) before middle → AddsTo before middle (sends middle.server (ack_to middle.server (Some from) ++ passed_on_by middle.server taken)) result new → Does old (takes_entries old.server from entries) result new
 take_append-does old grown middle from entries taken before result new whole is same count heeds adds =
     let grows = appended old.server entries in
     let first : Heeds old (advances_at_tail grows) before middle = Does-grown old grown grows advances_at_tail (Ok before) middle whole is same heeds in

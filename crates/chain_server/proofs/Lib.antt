@@ -1,4 +1,5 @@
-pub mod PrefixLemmas
+pub mod AppliedLemmas
 pub mod ReplyLemmas
 pub mod HeedLemmas
 pub mod AdvanceLemmas
+pub mod RequestLemmas

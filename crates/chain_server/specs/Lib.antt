@@ -1,4 +1,4 @@
-pub mod Standing
+pub mod ServerStanding
 pub mod Whole
 pub mod Parts
 pub mod Calls

@@ -1,20 +1,17 @@
 -- How the parts of a server stand to each other.
-use Rattle.std.specs.Prelude.{◌≡◌, Bool, false, List, ◌++◌, length, take, Option}
+use Rattle.std.specs.Prelude.{◌≡◌, Bool, false, List, ◌++◌, Option}
 use Rattle.kr_order.specs.declared.ids.ServerId.{ServerId}
 use Rattle.kr_order.specs.declared.history.Entry.{Entry}
 use Rattle.kr_order.specs.declared.view.View.{View}
+use Rattle.kr_order.specs.Prefix.{IsPrefix}
 use Rattle.kr_order.specs.View.{next_of}
-
--- the log begins with this history
-pub record IsPrefix (history log : List Entry) : Type 0 where
-  pub is : history ≡ take (length history) log
 
 -- the list ends with these
 pub record IsBackOf {X : Type 0} (all back : List X) : Type 0 where
   pub front : List X
   pub is : all ≡ front ++ back
 
--- the link goes to the next server of the view, and while no call has failed, the board's history is a prefix of the log
+-- the link goes to the next server of the view, and while no call has failed, the log begins with the board's history
 pub record IsWhole (id : ServerId) (view : View) (to : Option ServerId) (failed : Bool) (history log : List Entry) : Type 0 where
   pub next : to ≡ next_of view id
   pub prefix : failed ≡ false → IsPrefix history log

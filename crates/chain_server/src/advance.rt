@@ -2,7 +2,7 @@
 
 ghost use Rattle.std.specs.Prelude.{◌≡◌, ◌+◌, ◌^◌, ◌<◌, ◌≤◌, [], ◌∷◌, ◌++◌, length, take, drop, IfOk, OnOk};
 ghost use Rattle.kr_order.specs.Done.{done_of};
-ghost use Rattle.chain_server.specs.Whole.{IsPrefix};
+ghost use Rattle.kr_order.specs.Prefix.{IsPrefix};
 
 use cmd_log::Log;
 use kr_order::{DoneEntry, DoneList, NoMemory};

@@ -7,7 +7,6 @@
 
 mod advance;
 mod effects;
-mod packets;
 mod replies;
 mod server;
 #[cfg(test)]

@@ -4,10 +4,12 @@ mod acks;
 mod appends;
 mod asks;
 mod requests;
+mod sends;
 
 ghost use Rattle.std.specs.Prelude.{◌≡◌, ◌+◌, ◌≤◌, ◌^◌, [], ◌∷◌, ◌++◌, length, min, false, IfOk, OnOk, OnErr};
 ghost use Rattle.kr_protocol.specs.Reaction.{ignored};
-ghost use Rattle.kr_protocol.specs.Server.{founder, is_server, advances};
+ghost use Rattle.kr_protocol.specs.Server.{founder, is_server, acknowledged, advances};
+ghost use Rattle.kr_order.specs.Held.{held_events, held_pairs};
 ghost use Rattle.chain_server.specs.Calls.{Takes, Does, number_of};
 
 use crate::Effects;
@@ -35,10 +37,10 @@ pub struct Server<B: Board> {
 }
 
 impl<B: Board> Model for Server<B> {
-    ghost use Rattle.chain_server.specs.Standing.{Standing, server_of};
+    ghost use Rattle.chain_server.specs.ServerStanding.{ServerStanding, server_of};
     ghost use Rattle.chain_server.specs.Whole.{IsWhole};
 
-    ghost Value = { Standing };
+    ghost Value = { ServerStanding };
 
     ghost view = { λ s. record { server = server_of s.id s.view s.log (B.stands s.board) s.link.fed s.waiting; failed = s.failed } };
 
@@ -94,6 +96,20 @@ impl<B: Board> Server<B> {
         ensures { result ≡ self.now.server.done }
     {
         self.board.count()
+    }
+
+    /// How many events are held after the acknowledged entries.
+    pub fn held(&self) -> u64
+        ensures { self.now.failed ≡ false → result ≡ length (held_events (acknowledged self.now.server)) }
+    {
+        self.board.held()
+    }
+
+    /// How many pairs are held after the acknowledged entries.
+    pub fn pairs_held(&self) -> u64
+        ensures { self.now.failed ≡ false → result ≡ length (held_pairs (acknowledged self.now.server)) }
+    {
+        self.board.pairs_held()
     }
 
     /// How many queries wait.

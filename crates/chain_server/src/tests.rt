@@ -1,9 +1,9 @@
-//! Servers of a chain of two, where memory suffices.
+//! One server of a chain of three, where memory suffices.
 
 use super::*;
 use kr_order::{
-    Asked, ClientId, Command, Entries, Entry, EventId, Message, NoMemory, Node, Packet, ServerId,
-    Servers, View,
+    Answer, Asked, ClientId, Command, Entries, Entry, EventId, Message, NoMemory, Node, Packet,
+    Packets, ServerId, Servers, View,
 };
 use order_state::PlainBoard;
 use std::alloc::Global;
@@ -11,12 +11,15 @@ use std::test::Fail;
 
 const HEAD: ServerId = ServerId(1);
 
-const TAIL: ServerId = ServerId(2);
+const MIDDLE: ServerId = ServerId(2);
 
-// A server of the view of two.
+const TAIL: ServerId = ServerId(3);
+
+// A server of the view of three.
 fn member(alloc: Global, id: ServerId) -> Result<Server<PlainBoard>, NoMemory> {
     let mut chain = Servers::new(alloc);
     chain.push(HEAD)?;
+    chain.push(MIDDLE)?;
     chain.push(TAIL)?;
     let view = View {
         number: 1,
@@ -26,24 +29,79 @@ fn member(alloc: Global, id: ServerId) -> Result<Server<PlainBoard>, NoMemory> {
     Ok(Server::founder(alloc, id, view, PlainBoard::new(alloc)))
 }
 
-// A packet of the client to a server.
-fn from_client(client: u32, to: ServerId, message: Message) -> Packet {
+// A packet of client 7 to a server.
+fn asked_of(to: ServerId, message: Message) -> Packet {
     Packet {
-        from: Node::Client(ClientId(client)),
+        from: Node::Client(ClientId(7)),
         to: Node::Server(to),
         message,
     }
 }
 
+// A query about one pair of events.
+fn query(alloc: Global, to: ServerId) -> Result<Packet, Fail> {
+    let mut pairs = Asked::new(alloc);
+    pairs.push((EventId(1), EventId(2)))?;
+    Ok(asked_of(
+        to,
+        Message::Ask {
+            q: 1,
+            part: 1,
+            pairs,
+        },
+    ))
+}
+
+// The first entry of a history, a create of client 7, as one server passes it on to another.
+fn first_entry(alloc: Global, from: ServerId, to: ServerId) -> Result<Packet, NoMemory> {
+    let mut entries = Entries::new(alloc);
+    entries.push(Entry {
+        client: ClientId(7),
+        seq: 1,
+        command: Command::Create,
+    })?;
+    Ok(Packet {
+        from: Node::Server(from),
+        to: Node::Server(to),
+        message: Message::Append { first: 1, entries },
+    })
+}
+
+// Whether these are one packet with this one answer.
+fn is_answer(packets: &Packets, answer: Answer) -> bool {
+    match packets.as_slice() {
+        [packet] => match &packet.message {
+            Message::Answered { told, .. } => told.answers.as_slice() == [answer].as_slice(),
+            _ => false,
+        },
+        _ => false,
+    }
+}
+
+// Whether these are an acknowledgement to the head of one entry that is not acknowledged, and the entry for the tail.
+fn is_ack_and_window(packets: &Packets) -> bool {
+    match packets.as_slice() {
+        [ack, window] => {
+            let Message::Ack { done: 0, len: 1 } = &ack.message else {
+                return false;
+            };
+            let Message::Append { first: 1, entries } = &window.message else {
+                return false;
+            };
+            entries.len() == 1 && ack.to == Node::Server(HEAD) && window.to == Node::Server(TAIL)
+        }
+        _ => false,
+    }
+}
+
 #[test]
 fn a_command_is_passed_on_by_the_head(rt: HostRuntime) -> Result<(), Fail> {
-    let alloc = rt.alloc();
-    let mut head = member(alloc, HEAD)?;
+    let mut head = member(rt.alloc(), HEAD)?;
     let request = Message::Request {
         seq: 1,
         command: Command::Create,
     };
-    let entered = head.take(&from_client(7, HEAD, request))?;
+    let entered = head.take(&asked_of(HEAD, request))?;
     assert_eq!(&rt; (head.len(), head.done(), entered.packets.len()), (1, 0, 1));
     Ok(())
 }
@@ -52,42 +110,30 @@ fn a_command_is_passed_on_by_the_head(rt: HostRuntime) -> Result<(), Fail> {
 fn an_entry_is_applied_by_the_tail(rt: HostRuntime) -> Result<(), Fail> {
     let alloc = rt.alloc();
     let mut tail = member(alloc, TAIL)?;
-    let mut entries = Entries::new(alloc);
-    entries.push(Entry {
-        client: ClientId(7),
-        seq: 1,
-        command: Command::Create,
-    })?;
-    let packet = Packet {
-        from: Node::Server(HEAD),
-        to: Node::Server(TAIL),
-        message: Message::Append { first: 1, entries },
-    };
-    let applied = tail.take(&packet)?;
-    // a reply to the client, then an acknowledgement to the head
-    assert_eq!(&rt;
-        (tail.done(), applied.committed.len(), applied.packets.len()),
-        (1, 1, 2)
-    );
+    let applied = tail.take(&first_entry(alloc, MIDDLE, TAIL)?)?;
+    // a reply to the client, then an acknowledgement to the server before
+    assert_eq!(&rt; (applied.committed.len(), applied.packets.len()), (1, 2));
+    assert_eq!(&rt; (tail.done(), tail.held(), tail.pairs_held()), (1, 1, 0));
     Ok(())
 }
 
 #[test]
-fn a_query_is_answered_when_the_server_works(rt: HostRuntime) -> Result<(), Fail> {
+fn a_tick_sends_the_acknowledgement_and_the_window(rt: HostRuntime) -> Result<(), Fail> {
     let alloc = rt.alloc();
-    let mut tail = member(alloc, TAIL)?;
-    let mut pairs = Asked::new(alloc);
-    pairs.push((EventId(1), EventId(2)))?;
-    let ask = Message::Ask {
-        q: 1,
-        part: 1,
-        pairs,
-    };
-    let _ = tail.take(&from_client(7, TAIL, ask))?;
-    let worked = tail.work(&rt, 1)?;
-    assert_eq!(&rt;
-        (tail.waiting(), worked.packets.len(), tail.view_number()),
-        (0, 1, 1)
-    );
+    let mut middle = member(alloc, MIDDLE)?;
+    let taken = middle.take(&first_entry(alloc, HEAD, MIDDLE)?)?;
+    let ticked = middle.tick()?;
+    assert!(&rt; is_ack_and_window(&taken.packets) && is_ack_and_window(&ticked.packets));
+    Ok(())
+}
+
+#[test]
+fn a_server_that_is_not_the_tail_is_unsure(rt: HostRuntime) -> Result<(), Fail> {
+    let alloc = rt.alloc();
+    let mut middle = member(alloc, MIDDLE)?;
+    let _ = middle.take(&query(alloc, MIDDLE)?)?;
+    let worked = middle.work(&rt, 1)?;
+    assert!(&rt; is_answer(&worked.packets, Answer::Unsure));
+    assert_eq!(&rt; (middle.waiting(), middle.view_number()), (0, 1));
     Ok(())
 }

@@ -2,7 +2,8 @@
 
 ghost use Rattle.std.specs.Prelude.{◌≡◌, map, IfOk};
 ghost use Rattle.kr_order.specs.Answer.{partial};
-ghost use Rattle.chain_server.specs.Parts.{told_by, answered};
+ghost use Rattle.kr_protocol.specs.Server.{told_by};
+ghost use Rattle.chain_server.specs.Parts.{answered};
 
 use kr_order::{Answer, Answers, Message, NoMemory, Node, Packet, Packets, Query, ServerId, Told};
 use order_state::Board;

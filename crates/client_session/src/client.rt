@@ -1,13 +1,13 @@
 //! The client and its calls.
 
-ghost use Rattle.std.specs.Prelude.{◌≡◌, ◌^◌, ◌<◌, ℕ, true, false, None, []};
-ghost use Rattle.kr_protocol.specs.Client.{new_client, is_busy, after_reply, answers_from};
-ghost use Rattle.client_session.specs.Calls.{Begins, Asks, Takes, Hears};
+ghost use Rattle.std.specs.Prelude.{◌≡◌, ◌^◌, ◌<◌, ℕ, true, false, None, [], IfOk};
+ghost use Rattle.kr_protocol.specs.Client.{new_client, first_of, is_busy, says, after_reply, answers_from};
+ghost use Rattle.client_session.specs.Calls.{Begins, Asks, Retries, Takes, Hears};
 
 use crate::answers::{fits, parts_of};
 use kr_order::{
     Asked, ClientId, Command, Copied, Message, NoMemory, Node, Packet, Parts, Placed, ServerId,
-    Teller, Told, ToldReply,
+    Teller, Told, ToldReply, View,
 };
 use std::alloc::Global;
 use std::marker::Model;
@@ -24,6 +24,17 @@ pub enum CallStop {
     NoMemory,
 }
 
+/// Why no call is tried again.
+#[derive(Clone, Copy, Debug, PartialEq, Eq, Error)]
+pub enum RetryStop {
+    /// No call is open.
+    #[error("no call is open")]
+    NothingOpen,
+    /// There was no memory, now or in an earlier call.
+    #[error("out of memory")]
+    NoMemory,
+}
+
 impl From<NoMemory> for CallStop {
     ghost use Rattle.std.specs.Prelude.{◌≡◌};
     ghost use Rattle.client_session.specs.declared.client.CallStop.TheVariants.{NoMemory as StopNoMemory};
@@ -32,6 +43,17 @@ impl From<NoMemory> for CallStop {
 
     fn from(_: NoMemory) -> Self {
         CallStop::NoMemory
+    }
+}
+
+impl From<NoMemory> for RetryStop {
+    ghost use Rattle.std.specs.Prelude.{◌≡◌};
+    ghost use Rattle.client_session.specs.declared.client.RetryStop.TheVariants.{NoMemory as StopNoMemory};
+
+    ghost from_gives = { λ _ stop. stop ≡ StopNoMemory };
+
+    fn from(_: NoMemory) -> Self {
+        RetryStop::NoMemory
     }
 }
 
@@ -57,7 +79,7 @@ impl Heard {
     }
 }
 
-/// A client. Commands go to the first server of the chain.
+/// A client. Commands go to the first server of the view that it knows.
 #[derive(Debug, Drop)]
 pub struct Client {
     alloc: Global,
@@ -67,23 +89,34 @@ pub struct Client {
     q: u64,
     asking: Option<Asked>,
     seen: u64,
+    known: View,
     failed: bool,
 }
 
+// The first of these servers; 0, which no server has, where there is none.
+fn first_of(chain: &[ServerId]) -> ServerId
+    ensures { result ≡ first_of chain.now }
+{
+    match chain {
+        [server, ..] => *server,
+        [] => ServerId(0),
+    }
+}
+
 impl Model for Client {
-    ghost use Rattle.client_session.specs.Standing.{Standing};
+    ghost use Rattle.client_session.specs.ClientStanding.{ClientStanding};
 
-    ghost Value = { Standing };
+    ghost Value = { ClientStanding };
 
-    ghost view = { λ c. record { client = record { id = c.id; seq = c.seq; call = c.call; q = c.q; asking = c.asking; seen = c.seen }; failed = c.failed } };
+    ghost view = { λ c. record { client = record { id = c.id; seq = c.seq; call = c.call; q = c.q; asking = c.asking; seen = c.seen; known = c.known }; failed = c.failed } };
 }
 
 impl Client {
-    /// A client that has begun nothing.
-    pub fn new(alloc: Global, id: ClientId) -> Client
-        ensures { result ≡ record { client = new_client id; failed = false } }
+    /// A client that has begun nothing, and knows this view.
+    pub fn new(alloc: Global, id: ClientId, view: View) -> Result<Client, NoMemory>
+        ensures { IfOk result (λ client. client ≡ record { client = new_client view id; failed = false }) }
     {
-        Client {
+        Ok(Client {
             alloc,
             id,
             seq: 0,
@@ -91,7 +124,19 @@ impl Client {
             q: 0,
             asking: None,
             seen: 0,
+            known: view,
             failed: false,
+        })
+    }
+
+    // The client's packet to a server.
+    fn says(&self, server: ServerId, message: Message) -> Packet
+        ensures { result ≡ says self.now.client server message }
+    {
+        Packet {
+            from: Node::Client(self.id),
+            to: Node::Server(server),
+            message,
         }
     }
 
@@ -108,18 +153,15 @@ impl Client {
             return Err(CallStop::Busy);
         }
         self.failed = true;
-        let request = command.copy(self.alloc)?;
+        let sent = command.copy(self.alloc)?;
         self.seq += 1;
         self.call = Some(command);
         self.failed = false;
-        Ok(Packet {
-            from: Node::Client(self.id),
-            to: Node::Server(ServerId(1)),
-            message: Message::Request {
-                seq: self.seq,
-                command: request,
-            },
-        })
+        let seq = self.seq;
+        Ok(self.says(
+            first_of(self.known.chain.as_slice()),
+            Message::Request { seq, command: sent },
+        ))
     }
 
     /// Opens a query, and answers what asks the server, which is to be sent. `Busy` comes where a call is open, and
@@ -140,15 +182,38 @@ impl Client {
         self.q += 1;
         self.asking = Some(kept);
         self.failed = false;
-        Ok(Packet {
-            from: Node::Client(self.id),
-            to: Node::Server(server),
-            message: Message::Ask {
-                q: self.q,
+        let q = self.q;
+        Ok(self.says(
+            server,
+            Message::Ask {
+                q,
                 part: 1,
                 pairs: sent,
             },
-        })
+        ))
+    }
+
+    /// The packet that tries the open call again, at this server and with the same number; the client stays as it
+    /// is. `NothingOpen` comes exactly where no call is open; a client that has failed answers `NoMemory`.
+    pub fn retry(&self, server: ServerId) -> Result<Packet, RetryStop>
+        ensures { Retries self.now server result }
+    {
+        if self.failed {
+            return Err(RetryStop::NoMemory);
+        }
+        let message = match (&self.call, &self.asking) {
+            (Some(command), _) => Message::Request {
+                seq: self.seq,
+                command: command.copy(self.alloc)?,
+            },
+            (None, Some(pairs)) => Message::Ask {
+                q: self.q,
+                part: 1,
+                pairs: pairs.copy()?,
+            },
+            (None, None) => return Err(RetryStop::NothingOpen),
+        };
+        Ok(self.says(server, message))
     }
 
     /// Takes a packet that is addressed to the client. The reply of its open command, or the answers to its open
@@ -161,12 +226,9 @@ impl Client {
             return Err(NoMemory);
         }
         match &packet.message {
-            Message::Request { .. }
-            | Message::Append { .. }
-            | Message::Ack { .. }
-            | Message::Ask { .. } => Ok(Heard::nothing(self.alloc)),
             Message::Replied { seq, placed } => self.hear_reply(*seq, placed),
             Message::Answered { q, part, told } => self.hear_answers(packet.from, *q, *part, told),
+            _ => Ok(Heard::nothing(self.alloc)),
         }
     }
 
@@ -218,6 +280,13 @@ impl Client {
         self.seen = self.seen.max(told.entry);
         self.failed = false;
         Ok(Heard { told: None, parts })
+    }
+
+    /// The view that the client knows.
+    pub fn known(&self) -> &View
+        ensures { result.now ≡ self.now.client.known }
+    {
+        &self.known
     }
 
     /// The greatest place or entry that the client was told.

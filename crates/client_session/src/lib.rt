@@ -7,6 +7,8 @@
 
 mod answers;
 mod client;
+#[cfg(test)]
+mod tests;
 
-pub use client::{CallStop, Client, Heard};
+pub use client::{CallStop, Client, Heard, RetryStop};
 pub use kr_order::ToldReply;

@@ -12,7 +12,7 @@ use std::collections::HashMap;
 use std::marker::Model;
 
 // A log never has more entries than this: there is no memory for so many.
-const MOST_ENTRIES: usize = 1 << 58;
+const LOG_LIMIT: usize = 1 << 58;
 
 /// Entries at the places from 1 on.
 #[derive(Debug, Drop)]
@@ -87,20 +87,18 @@ impl Log {
         }
     }
 
-    /// Puts a copy of the entry at the next place. After `NoMemory` the log is as before.
-    pub fn push(&mut self, entry: &Entry) -> Result<(), NoMemory>
-        ensures ok { OnOk result (self.new ≡ self.old ++ entry.now ∷ []) }
+    /// Puts the entry at the next place. After `NoMemory` the log is as before, and the entry is dropped.
+    pub fn push(&mut self, entry: Entry) -> Result<(), NoMemory>
+        ensures ok { OnOk result (self.new ≡ self.old ++ entry ∷ []) }
         ensures err { OnErr result (self.new ≡ self.old) }
     {
-        if self.entries.len() >= MOST_ENTRIES {
+        if self.entries.len() >= LOG_LIMIT {
             return Err(NoMemory);
         }
-        let alloc = *self.entries.allocator();
-        let copy = entry.copy(alloc)?;
         let highest = self.highest_seq(entry.client).max(entry.seq);
         self.entries.reserve(1)?;
         let _ = self.highest.insert(entry.client.0, highest)?;
-        self.entries.push_reserved(copy);
+        self.entries.push_reserved(entry);
         Ok(())
     }
 
@@ -109,7 +107,7 @@ impl Log {
         ensures ok { OnOk result (self.new ≡ self.old ++ entries.now) }
         ensures err { OnErr result (self.new ≡ self.old) }
     {
-        if entries.len() > MOST_ENTRIES - self.entries.len() {
+        if entries.len() > LOG_LIMIT - self.entries.len() {
             return Err(NoMemory);
         }
         let alloc = *self.entries.allocator();

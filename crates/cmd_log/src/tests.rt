@@ -31,9 +31,9 @@ fn stands(rt: &impl Abort, log: &Log, place: u64, client: u32, seq: u64) -> Resu
 fn entries_stand_at_their_places(rt: HostRuntime) -> Result<(), Fail> {
     let mut log = Log::new(rt.alloc());
     crosses_threads(&log);
-    log.push(&create(1, 2))?;
-    log.push(&create(1, 1))?;
-    log.push(&create(2, 7))?;
+    log.push(create(1, 2))?;
+    log.push(create(1, 1))?;
+    log.push(create(2, 7))?;
     assert_eq!(&rt; (log.base(), log.len()), (0, 3));
     stands(&rt, &log, 1, 1, 2)?;
     stands(&rt, &log, 3, 2, 7)?;
@@ -44,9 +44,9 @@ fn entries_stand_at_their_places(rt: HostRuntime) -> Result<(), Fail> {
 #[test]
 fn the_highest_seq_is_not_the_last(rt: HostRuntime) -> Result<(), Fail> {
     let mut log = Log::new(rt.alloc());
-    log.push(&create(1, 2))?;
-    log.push(&create(1, 1))?;
-    log.push(&create(2, 7))?;
+    log.push(create(1, 2))?;
+    log.push(create(1, 1))?;
+    log.push(create(2, 7))?;
     assert_eq!(&rt; log.highest_seq(ClientId(1)), 2);
     assert_eq!(&rt; log.highest_seq(ClientId(3)), 0);
     Ok(())
@@ -55,7 +55,7 @@ fn the_highest_seq_is_not_the_last(rt: HostRuntime) -> Result<(), Fail> {
 #[test]
 fn many_entries_are_put_at_once(rt: HostRuntime) -> Result<(), Fail> {
     let mut log = Log::new(rt.alloc());
-    log.push(&create(1, 2))?;
+    log.push(create(1, 2))?;
     log.push_all(&[create(1, 5), create(2, 7), create(1, 4)])?;
     log.push_all(&[])?;
     assert_eq!(&rt; log.len(), 4);
@@ -70,9 +70,9 @@ fn many_entries_are_put_at_once(rt: HostRuntime) -> Result<(), Fail> {
 #[test]
 fn a_suffix_ends_with_the_log(rt: HostRuntime) -> Result<(), Fail> {
     let mut log = Log::new(rt.alloc());
-    log.push(&create(1, 1))?;
-    log.push(&create(1, 2))?;
-    log.push(&create(1, 3))?;
+    log.push(create(1, 1))?;
+    log.push(create(1, 2))?;
+    log.push(create(1, 3))?;
     assert_eq!(&rt; log.suffix(2, 16)?.len(), 2);
     assert_eq!(&rt; log.suffix(1, 2)?.len(), 2);
     assert_eq!(&rt; log.suffix(9, 16)?.len(), 0);

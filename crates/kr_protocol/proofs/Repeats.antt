@@ -5,20 +5,19 @@ use Rattle.std.proofs.lemmas.Bool.{le-leb, leb-true, ltb-true, cond-true, cond-f
 use Rattle.std.proofs.lemmas.List.{append-nil, length-append, length-drop, drop_all}
 use Rattle.kr_order.specs.declared.ids.ClientId.{ClientId}
 use Rattle.kr_order.specs.declared.ids.ServerId.{ServerId}
-use Rattle.kr_order.specs.declared.ids.EventId.{EventId}
 use Rattle.kr_order.specs.declared.history.Command.{Command}
 use Rattle.kr_order.specs.declared.history.Entry.{Entry}
 use Rattle.kr_order.specs.declared.history.DoneEntry.{DoneEntry}
 use Rattle.kr_order.specs.declared.message.Node as nodes
 use Rattle.kr_order.specs.declared.message.Node.TheVariants.{Manager, Client, Server as FromServer}
 use Rattle.kr_order.specs.declared.message.Message.{Message}
-use Rattle.kr_order.specs.declared.message.Message.TheVariants.{Request, Append, Ack, Replied, Ask, Answered}
+use Rattle.kr_order.specs.declared.message.Message.TheVariants.{Request, Append, Ack, Ask}
 use Rattle.kr_order.specs.declared.answer.Query.{Query}
 use Rattle.kr_order.specs.History.{highest_seq}
 use Rattle.kr_order.specs.View.{prev_of}
 use Rattle.kr_order.specs.Done.{done_of, last_of}
 use Rattle.kr_protocol.specs.Reaction.{Reaction, ignored}
-use Rattle.kr_protocol.specs.Server.{Server, sends, follows, appended, advances, advances_at_tail, enters, may_enter, enters_new, requested, after_request, request_from, missing, after_append, append_from, acknowledges, feeds, after_ack, ack_from, message_from, most_waiting, after_ask, ask_from, viewed, is_member, is_at_tail, is_first, is_server, acknowledged, ack, prev, next, window, reply_packet}
+use Rattle.kr_protocol.specs.Server.{Server, sends, follows, appended, advances, advances_at_tail, enters, may_enter, enters_new, requested, after_request, missing, after_append, acknowledges, feeds, after_ack, most_waiting, after_ask, viewed, is_member, is_at_tail, is_first, is_server, acknowledged, ack, prev, next, window, reply_packet, from_client, from_server, taken_from}
 use Rattle.kr_protocol.specs.Laws.{RepeatsChangeNothing}
 
 -- a command in the log is none of greater number
@@ -105,11 +104,6 @@ request_again server client seq command =
       | inr known ↦ request_known (after_request server client seq command).after client seq command known
     ]
 
-from_again : (server : Server) (from : nodes.Node) (seq : ℕ) (command : Command) → (request_from (request_from server from seq command).after from seq command).after.log ≡ (request_from server from seq command).after.log
-from_again server Manager seq command = refl
-from_again server (Client client) seq command = request_again server client seq command
-from_again server (FromServer other) seq command = refl
-
 -- entries that the log lacks are there once they have been appended
 pub missing_none : (log : List Entry) (first : ℕ) (entries : List Entry) → missing (log ++ missing log first entries) first entries ≡ []
 missing_none log first entries = by_test (leb first (length log + 1)) refl
@@ -153,11 +147,6 @@ append_again server from first entries true is =
     again.log_is ∙ ap (λ es. after.log ++ es) (ap (λ l. missing l first entries) on.log_is ∙ missing_none server.log first entries) ∙ append-nil after.log
 append_again server from first entries false is = rw is (rw is refl)
 
-append_from_again : (server : Server) (from : nodes.Node) (first : ℕ) (entries : List Entry) → (append_from (append_from server from first entries).after from first entries).after.log ≡ (append_from server from first entries).after.log
-append_from_again server Manager first entries = refl
-append_from_again server (Client client) first entries = refl
-append_from_again server (FromServer from) first entries = append_again server from first entries (is_server (prev server) from) refl
-
 -- an acknowledgement adds nothing to the log
 acknowledges_keeps : (server : Server) (upto : ℕ) → (acknowledges server upto).after.log ≡ server.log
 acknowledges_keeps server upto = by_test (ltb server.done upto)
@@ -173,11 +162,6 @@ ack_keeps server from done len = by_test (is_server (next server) from)
     by_test true = acknowledges_keeps server (min done (length server.log))
     by_test false = refl
 
-ack_from_keeps : (server : Server) (from : nodes.Node) (done len : ℕ) → (ack_from server from done len).after.log ≡ server.log
-ack_from_keeps server Manager done len = refl
-ack_from_keeps server (Client client) done len = refl
-ack_from_keeps server (FromServer from) done len = ack_keeps server from done len
-
 -- nor does a query
 ask_keeps : (server : Server) (query : Query) → (after_ask server query).after.log ≡ server.log
 ask_keeps server query = by_test (leb most_waiting (length server.waiting))
@@ -186,18 +170,21 @@ ask_keeps server query = by_test (leb most_waiting (length server.waiting))
     by_test true = refl
     by_test false = refl
 
-ask_from_keeps : (server : Server) (from : nodes.Node) (q part : ℕ) (pairs : List (EventId × EventId)) → (ask_from server from q part pairs).after.log ≡ server.log
-ask_from_keeps server Manager q part pairs = refl
-ask_from_keeps server (Client client) q part pairs = ask_keeps server (record { client = client; q = q; part = part; pairs = pairs })
-ask_from_keeps server (FromServer other) q part pairs = refl
+client_again : (server : Server) (client : ClientId) (message : Message) → (from_client (from_client server client message).after client message).after.log ≡ (from_client server client message).after.log
+client_again server client (Request seq command) = request_again server client seq command
+client_again server client (Ask q part pairs) =
+    let query : Query = record { client = client; q = q; part = part; pairs = pairs } in ask_keeps (after_ask server query).after query
+client_again server client other = refl
 
-message_again : (server : Server) (from : nodes.Node) (message : Message) → (message_from (message_from server from message).after from message).after.log ≡ (message_from server from message).after.log
-message_again server from (Request seq command) = from_again server from seq command
-message_again server from (Append first entries) = append_from_again server from first entries
-message_again server from (Ack done len) = ack_from_keeps (ack_from server from done len).after from done len
-message_again server from (Replied seq placed) = refl
-message_again server from (Ask q part pairs) = ask_from_keeps (ask_from server from q part pairs).after from q part pairs
-message_again server from (Answered q part told) = refl
+server_again : (server : Server) (from : ServerId) (message : Message) → (from_server (from_server server from message).after from message).after.log ≡ (from_server server from message).after.log
+server_again server from (Append first entries) = append_again server from first entries (is_server (prev server) from) refl
+server_again server from (Ack done len) = ack_keeps (after_ack server from done len).after from done len
+server_again server from other = refl
+
+message_again : (server : Server) (from : nodes.Node) (message : Message) → (taken_from (taken_from server from message).after from message).after.log ≡ (taken_from server from message).after.log
+message_again server Manager message = refl
+message_again server (Client client) message = client_again server client message
+message_again server (FromServer from) message = server_again server from message
 
 pub again : RepeatsChangeNothing
 again server packet = message_again server packet.from packet.message

@@ -15,13 +15,14 @@ use Rattle.kr_order.specs.declared.answer.ToldPart.{ToldPart}
 use Rattle.kr_order.specs.declared.message.Node as nodes
 use Rattle.kr_order.specs.declared.message.Node.TheVariants.{Manager, Client as ToClient, Server}
 use Rattle.kr_order.specs.declared.message.Message.{Message}
-use Rattle.kr_order.specs.declared.message.Message.TheVariants.{Request, Append, Ack, Replied, Ask, Answered}
+use Rattle.kr_order.specs.declared.message.Message.TheVariants.{Request, Replied, Ask, Answered}
 use Rattle.kr_order.specs.declared.message.Packet.{Packet}
+use Rattle.kr_order.specs.declared.view.View.{View}
 use Rattle.kr_protocol.specs.Reaction.{Reaction}
 
 -- a client: how many commands it has begun, its open command, which is the last of them, how many queries it has
--- begun, the pairs of its open query, which is the last of them, and the greatest place or entry that it was told.
--- At most one call is open, a command or a query.
+-- begun, the pairs of its open query, which is the last of them, the greatest place or entry that it was told, and the
+-- view of the chain that it knows. At most one call is open, a command or a query.
 pub record Client : Type 0 where
   pub id : ClientId
   pub seq : ℕ
@@ -29,28 +30,52 @@ pub record Client : Type 0 where
   pub q : ℕ
   pub asking : Option (List (EventId × EventId))
   pub seen : ℕ
+  pub known : View
 
--- a client that has begun nothing
-abbrev pub new_client : ClientId → Client
-new_client id = record { id = id; seq = 0; call = None; q = 0; asking = None; seen = 0 }
+-- a client that has begun nothing, and knows this view
+abbrev pub new_client : View → ClientId → Client
+new_client view id = record { id = id; seq = 0; call = None; q = 0; asking = None; seen = 0; known = view }
 
 -- whether a call is open
 abbrev pub is_busy : Client → Bool
 is_busy client = is_some client.call || is_some client.asking
 
--- commands go to the first server of the chain
-abbrev pub head : ServerId
-head = record { 0 = 1 }
+-- the first of these servers; 0, which no server has, where there is none
+abbrev pub first_of : List ServerId → ServerId
+first_of [] = record { 0 = 0 }
+first_of (server ∷ more) = server
+
+-- commands go to the first server of the view that the client knows
+abbrev pub head : Client → ServerId
+head client = first_of client.known.chain
+
+-- a client's packet to a server
+abbrev pub says : Client → ServerId → Message → Packet
+says client server message = record { from = ToClient client.id; to = Server server; message = message }
 
 -- the client opens a command and sends its request
 abbrev pub begins : Client → Command → Reaction Client
 begins client command =
-    record { after = record client { seq = client.seq + 1; call = Some command }; sent = record { from = ToClient client.id; to = Server head; message = Request (client.seq + 1) command } ∷ [] }
+    record { after = record client { seq = client.seq + 1; call = Some command }; sent = says client (head client) (Request (client.seq + 1) command) ∷ [] }
 
 -- the client opens a query, and asks it of the server
 abbrev pub asks : Client → ServerId → List (EventId × EventId) → Reaction Client
 asks client server pairs =
-    record { after = record client { q = client.q + 1; asking = Some pairs }; sent = record { from = ToClient client.id; to = Server server; message = Ask (client.q + 1) 1 pairs } ∷ [] }
+    record { after = record client { q = client.q + 1; asking = Some pairs }; sent = says client server (Ask (client.q + 1) 1 pairs) ∷ [] }
+
+-- the open query's pairs are asked once more
+abbrev pub asked_again : Client → ServerId → Option (List (EventId × EventId)) → List Packet
+asked_again client server None = []
+asked_again client server (Some pairs) = says client server (Ask client.q 1 pairs) ∷ []
+
+-- the open command is requested once more, or the open query
+abbrev pub tried_again : Client → ServerId → Option Command → List Packet
+tried_again client server None = asked_again client server client.asking
+tried_again client server (Some command) = says client server (Request client.seq command) ∷ []
+
+-- the client tries its open call again at the server, with the same number; it stays as it is
+abbrev pub retries : Client → ServerId → List Packet
+retries client server = tried_again client server client.call
 
 -- what a client does with a message: the client afterwards, and the reply or the parts that it is told
 pub record Hearing : Type 0 where
@@ -112,13 +137,11 @@ answers_from client Manager q part told = unheard client
 answers_from client (ToClient other) q part told = unheard client
 answers_from client (Server server) q part told = after_answers client client.asking (teller.Server server) q part told
 
+-- clients are sent replies and answers
 abbrev pub message_to : Client → nodes.Node → Message → Hearing
-message_to client from (Request seq command) = unheard client
-message_to client from (Append first entries) = unheard client
-message_to client from (Ack done len) = unheard client
 message_to client from (Replied seq placed) = after_reply client client.call seq placed
-message_to client from (Ask q part pairs) = unheard client
 message_to client from (Answered q part told) = answers_from client from q part told
+message_to client from other = unheard client
 
 -- what the client does with a packet that is addressed to it
 abbrev pub client_takes : Client → Packet → Hearing

@@ -5,7 +5,7 @@ use Rattle.kr_order.specs.declared.ids.ServerId.{ServerId}
 use Rattle.kr_order.specs.declared.ids.EventId.{EventId}
 use Rattle.kr_order.specs.declared.answer.Answer.{Answer}
 use Rattle.kr_order.specs.declared.answer.Query.{Query}
-use Rattle.kr_order.specs.Answer.{answer_to, partial}
+use Rattle.kr_order.specs.Answer.{answers_after, partial}
 use Rattle.kr_order.specs.declared.history.Command.{Command}
 use Rattle.kr_order.specs.declared.history.Entry.{Entry}
 use Rattle.kr_order.specs.declared.history.DoneEntry.{DoneEntry}
@@ -85,21 +85,31 @@ most_entries = 16
 abbrev pub next_entries : Server → List Entry
 next_entries server = take most_entries (drop server.fed server.log)
 
+-- what the server of this id passes on of a log to a next one, where there is one, that is known to have so many of
+-- its entries: those behind them, up to so many, and nothing where there are none
+abbrev pub window_of : ServerId → Option ServerId → ℕ → List Entry → List Packet
+window_of id None fed log = []
+window_of id (Some to) fed log =
+    if nat_lt fed (length log) then record { from = FromServer id; to = FromServer to; message = Append (fed + 1) (take most_entries (drop fed log)) } ∷ [] else []
+
 abbrev pub window_to : Server → Option ServerId → List Packet
-window_to server None = []
-window_to server (Some to) =
-    if nat_lt server.fed (length server.log) then record { from = FromServer server.id; to = FromServer to; message = Append (server.fed + 1) (next_entries server) } ∷ [] else []
+window_to server to = window_of server.id to server.fed server.log
 
 -- the window: what is passed on to the next server, where there is one that may lack entries
 abbrev pub window : Server → List Packet
 window server = window_to server (next server)
 
--- how many entries are acknowledged to it and how many its log has, for the server before it
-abbrev pub ack_to : Server → Option ServerId → List Packet
-ack_to server None = []
-ack_to server (Some to) =
-    record { from = FromServer server.id; to = FromServer to; message = Ack server.done (length server.log) } ∷ []
+-- what the server of this id tells one before it, where there is one: how many entries are acknowledged to it, and how
+-- many its log has
+abbrev pub ack_of : ServerId → Option ServerId → ℕ → ℕ → List Packet
+ack_of id None done len = []
+ack_of id (Some to) done len =
+    record { from = FromServer id; to = FromServer to; message = Ack done len } ∷ []
 
+abbrev pub ack_to : Server → Option ServerId → List Packet
+ack_to server to = ack_of server.id to server.done (length server.log)
+
+-- the acknowledgement for the server before it
 abbrev pub ack : Server → List Packet
 ack server = ack_to server (prev server)
 
@@ -135,10 +145,13 @@ appended server entries = record server { log = server.log ++ entries }
 abbrev pub advances_at_tail : Server → Reaction Server
 advances_at_tail server = if is_at_tail server then advances server (length server.log) else sends server []
 
+-- what stands in the log is acknowledged by the tail, and passed on by another
+abbrev pub settles : Server → Reaction Server
+settles server = if is_at_tail server then advances server (length server.log) else sends server (window server)
+
 -- a new entry goes to the end of the first member's log, and on to the next server, if there is one
 abbrev pub enters : Server → Entry → Reaction Server
-enters server entry =
-    let grown = appended server (entry ∷ []) in if is_at_tail grown then advances grown (length grown.log) else sends grown (window grown)
+enters server entry = settles (appended server (entry ∷ []))
 
 -- the first member takes a command whose number is greater than those of all the client's commands in its log
 abbrev pub may_enter : Server → Entry → Bool
@@ -157,12 +170,6 @@ requested server entry (Some last) =
 abbrev pub after_request : Server → ClientId → ℕ → Command → Reaction Server
 after_request server client seq command =
     if is_member server then requested server (record { client = client; seq = seq; command = command }) (last_of client (done_of (acknowledged server))) else ignored server
-
--- a request counts where a client sent it
-abbrev pub request_from : Server → nodes.Node → ℕ → Command → Reaction Server
-request_from server Manager seq command = ignored server
-request_from server (Client client) seq command = after_request server client seq command
-request_from server (FromServer other) seq command = ignored server
 
 -- those of the entries, the first of which stands at the place, that the log lacks; none where there is a gap
 abbrev pub missing : List Entry → ℕ → List Entry → List Entry
@@ -184,11 +191,6 @@ abbrev pub after_append : Server → ServerId → ℕ → List Entry → Reactio
 after_append server from first entries =
     if is_server (prev server) from then takes_entries server from (missing server.log first entries) else ignored server
 
-abbrev pub append_from : Server → nodes.Node → ℕ → List Entry → Reaction Server
-append_from server Manager first entries = ignored server
-append_from server (Client client) first entries = ignored server
-append_from server (FromServer from) first entries = after_append server from first entries
-
 -- what is acknowledged to the next server is acknowledged to this one, and the server before it learns so
 abbrev pub acknowledges : Server → ℕ → Reaction Server
 acknowledges server upto =
@@ -205,11 +207,6 @@ abbrev pub after_ack : Server → ServerId → ℕ → ℕ → Reaction Server
 after_ack server from done len =
     if is_server (next server) from then follows (acknowledges server (min done (length server.log))) (λ after. feeds after (min len (length after.log))) else ignored server
 
-abbrev pub ack_from : Server → nodes.Node → ℕ → ℕ → Reaction Server
-ack_from server Manager done len = ignored server
-ack_from server (Client client) done len = ignored server
-ack_from server (FromServer from) done len = after_ack server from done len
-
 -- so many queries wait at the most; a further one is ignored
 abbrev pub most_waiting : ℕ
 most_waiting = 64
@@ -219,33 +216,36 @@ abbrev pub after_ask : Server → Query → Reaction Server
 after_ask server query =
     if nat_le most_waiting (length server.waiting) then ignored server else sends (record server { waiting = server.waiting ++ query ∷ [] }) []
 
--- a query counts where a client sent it
-abbrev pub ask_from : Server → nodes.Node → ℕ → ℕ → List (EventId × EventId) → Reaction Server
-ask_from server Manager q part pairs = ignored server
-ask_from server (Client client) q part pairs =
+-- clients send requests and queries
+abbrev pub from_client : Server → ClientId → Message → Reaction Server
+from_client server client (Request seq command) = after_request server client seq command
+from_client server client (Ask q part pairs) =
     after_ask server (record { client = client; q = q; part = part; pairs = pairs })
-ask_from server (FromServer other) q part pairs = ignored server
+from_client server client other = ignored server
 
-abbrev pub message_from : Server → nodes.Node → Message → Reaction Server
-message_from server from (Request seq command) = request_from server from seq command
-message_from server from (Append first entries) = append_from server from first entries
-message_from server from (Ack done len) = ack_from server from done len
-message_from server from (Replied seq placed) = ignored server
-message_from server from (Ask q part pairs) = ask_from server from q part pairs
-message_from server from (Answered q part told) = ignored server
+-- servers send entries and acknowledgements
+abbrev pub from_server : Server → ServerId → Message → Reaction Server
+from_server server from (Append first entries) = after_append server from first entries
+from_server server from (Ack done len) = after_ack server from done len
+from_server server from other = ignored server
+
+-- who sent the message, and what it says
+abbrev pub taken_from : Server → nodes.Node → Message → Reaction Server
+taken_from server Manager message = ignored server
+taken_from server (Client client) message = from_client server client message
+taken_from server (FromServer from) message = from_server server from message
 
 -- what the server does with a packet that is addressed to it
 abbrev pub server_takes : Server → Packet → Reaction Server
-server_takes server packet = message_from server packet.from packet.message
+server_takes server packet = taken_from server packet.from packet.message
 
--- the answers to these pairs after the history
-abbrev pub answers_after : List Entry → List (EventId × EventId) → List Answer
-answers_after history pairs = map (λ pair. answer_to history pair.0.0 pair.1.0) pairs
+-- the tail tells answers as they are; another server may lack entries, and tells only what stays so
+abbrev pub told_by : Bool → List Answer → List Answer
+told_by tail answers = if tail then answers else map partial answers
 
--- what the server says to these pairs: who is not the tail may lack entries, and says only what stays so
+-- what the server says to these pairs
 abbrev pub answers_of : Server → List (EventId × EventId) → List Answer
-answers_of server pairs =
-    let answers = answers_after (acknowledged server) pairs in if is_at_tail server then answers else map partial answers
+answers_of server pairs = told_by (is_at_tail server) (answers_after (acknowledged server) pairs)
 
 -- the answers to a query, for the client that asked it
 abbrev pub answer_packet : Server → Query → Packet
@@ -255,3 +255,7 @@ answer_packet server query =
 -- the server answers every waiting query, the oldest first, from its acknowledged prefix
 abbrev pub server_works : Server → Reaction Server
 server_works server = sends (record server { waiting = [] }) (map (answer_packet server) server.waiting)
+
+-- a server whose time has come tells the server before it what it has, and the one behind it what that may lack
+abbrev pub server_ticks : Server → Reaction Server
+server_ticks server = sends server (ack server ++ window server)

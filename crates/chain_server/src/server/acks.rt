@@ -6,7 +6,6 @@ ghost use Rattle.chain_server.specs.Calls.{Does, AddsTo};
 
 use super::{Server, is_server};
 use crate::Effects;
-use crate::packets::{ack, window};
 use kr_order::{NoMemory, Packets, ServerId};
 use order_state::Board;
 
@@ -17,9 +16,7 @@ impl<B: Board> Server<B> {
         ensures { AddsTo effects self.old (sends self.old.server (ack self.old.server)) result self.new }
     {
         self.failed = true;
-        let before = self.view.prev_of(self.id);
-        let done = self.board.count();
-        let packets = ack(self.alloc, self.id, before, done, self.log.len())?;
+        let packets = self.ack()?;
         effects.packets.append(packets)?;
         self.failed = false;
         Ok(effects)
@@ -50,7 +47,7 @@ impl<B: Board> Server<B> {
         let is_news = self.link.fed() < upto && upto < own;
         self.link.heard(len, own);
         let packets = if is_news {
-            window(self.alloc, self.id, &self.link, &self.log)?
+            self.window()?
         } else {
             Packets::new(self.alloc)
         };

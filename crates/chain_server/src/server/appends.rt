@@ -3,33 +3,13 @@
 ghost use Rattle.std.specs.Prelude.{◌≡◌, ◌++◌, Some, length, true, false, IfOk, OnOk, OnErr};
 ghost use Rattle.kr_protocol.specs.Server.{acknowledged, appended, missing, ack_to, sends, advances_at_tail, after_append};
 ghost use Rattle.chain_server.specs.Calls.{Does, AddsTo};
-ghost use Rattle.chain_server.specs.Parts.{passed_on, passed_on_by};
+ghost use Rattle.chain_server.specs.Parts.{passed_on_by};
 
 use super::{Server, is_server};
 use crate::Effects;
-use crate::packets::{ack, window};
-use chain_link::{Link, receive};
-use cmd_log::Log;
+use chain_link::receive;
 use kr_order::{Entries, NoMemory, Packets, ServerId};
 use order_state::Board;
-use std::alloc::Global;
-
-// What is passed on once so many entries were taken: nothing where none were.
-fn passed_on(
-    alloc: Global,
-    id: ServerId,
-    link: &Link,
-    log: &Log,
-    taken: u64,
-) -> Result<Packets, NoMemory>
-    ensures { IfOk result (λ packets. packets ≡ passed_on id link.now.next link.now.fed log.now taken) }
-{
-    if taken == 0 {
-        Ok(Packets::new(alloc))
-    } else {
-        window(alloc, id, link, log)
-    }
-}
 
 impl<B: Board> Server<B> {
     // Those entries that the log lacks go to its end. How many these were.
@@ -58,6 +38,17 @@ impl<B: Board> Server<B> {
         self.advance(len)
     }
 
+    // What is passed on once so many entries were taken: nothing where none were.
+    fn passed_on(&self, taken: u64) -> Result<Packets, NoMemory>
+        ensures { IfOk result (λ packets. packets ≡ passed_on_by self.now.server taken) }
+    {
+        if taken == 0 {
+            Ok(Packets::new(self.alloc))
+        } else {
+            self.window()
+        }
+    }
+
     // What is sent when so many entries were taken from the server before.
     fn pass_on(
         &mut self,
@@ -69,9 +60,8 @@ impl<B: Board> Server<B> {
         ensures { AddsTo effects self.old (sends self.old.server (ack_to self.old.server (Some from) ++ passed_on_by self.old.server taken)) result self.new }
     {
         self.failed = true;
-        let done = self.board.count();
-        let mut more = ack(self.alloc, self.id, Some(from), done, self.log.len())?;
-        let passed = passed_on(self.alloc, self.id, &self.link, &self.log, taken)?;
+        let mut more = self.ack_to(Some(from))?;
+        let passed = self.passed_on(taken)?;
         more.append(passed)?;
         effects.packets.append(more)?;
         self.failed = false;

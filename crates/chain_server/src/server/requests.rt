@@ -1,32 +1,30 @@
 //! Requests of clients.
 
-ghost use Rattle.std.specs.Prelude.{◌≡◌, ◌&&◌, nat_lt, [], ◌∷◌, true, false, IfOk, OnOk, OnErr};
+ghost use Rattle.std.specs.Prelude.{◌≡◌, ◌<◌, [], ◌∷◌, true, false, IfOk, OnOk, OnErr};
+ghost use Rattle.kr_order.specs.Done.{done_of, last_of};
 ghost use Rattle.kr_order.specs.History.{highest_seq};
-ghost use Rattle.kr_protocol.specs.Server.{acknowledged, appended, is_first, enters, enters_new, after_request};
+ghost use Rattle.kr_protocol.specs.Server.{acknowledged, appended, is_first, settles, enters, enters_new, after_request};
 ghost use Rattle.chain_server.specs.Calls.{Does};
-ghost use Rattle.chain_server.specs.Parts.{settles};
+ghost use Rattle.chain_server.specs.Parts.{entry_of, replies_again};
 
 use super::Server;
 use crate::Effects;
-use crate::packets::window;
 use crate::replies::repeated;
 use kr_order::{ClientId, Command, Copied, Entry, NoMemory};
 use order_state::Board;
 
 impl<B: Board> Server<B> {
-    // Whether the server is the first member, and the client's command of this number is newer than all in its log.
-    fn may_enter(&self, client: ClientId, seq: u64) -> bool
-        ensures { result ≡ (is_first self.now.server && nat_lt (highest_seq client self.now.server.log) seq) }
+    // Whether the server is the first member of its chain.
+    fn is_first(&self) -> bool
+        ensures { result ≡ is_first self.now.server }
     {
-        self.view.in_chain(self.id)
-            && self.view.prev_of(self.id).is_none()
-            && self.log.highest_seq(client) < seq
+        self.view.in_chain(self.id) && self.view.prev_of(self.id).is_none()
     }
 
-    // A copy of the entry goes to the end of the log.
-    fn append(&mut self, entry: &Entry) -> Result<(), NoMemory>
+    // The entry goes to the end of the log.
+    fn append(&mut self, entry: Entry) -> Result<(), NoMemory>
         requires { self.old.failed ≡ false }
-        ensures grown { OnOk result (self.new ≡ record { server = appended self.old.server (entry.now ∷ []); failed = false }) }
+        ensures grown { OnOk result (self.new ≡ record { server = appended self.old.server (entry ∷ []); failed = false }) }
         ensures same { OnOk result (acknowledged self.new.server ≡ acknowledged self.old.server) }
         ensures err { OnErr result (self.new.failed ≡ true) }
     {
@@ -46,44 +44,60 @@ impl<B: Board> Server<B> {
             return self.advance(len);
         }
         self.failed = true;
-        let packets = window(self.alloc, self.id, &self.link, &self.log)?;
+        let packets = self.window()?;
         self.failed = false;
         Ok(Effects::of_packets(self.alloc, packets))
     }
 
     // A new entry enters the log.
-    fn enter(&mut self, entry: &Entry) -> Result<Effects, NoMemory>
+    fn enter(&mut self, entry: Entry) -> Result<Effects, NoMemory>
         requires { self.old.failed ≡ false }
-        ensures { Does self.old (enters self.old.server entry.now) result self.new }
+        ensures { Does self.old (enters self.old.server entry) result self.new }
     {
         self.append(entry)?;
         self.settle()
     }
 
-    // A command enters the log, unless it is none that may.
+    // A copy of a command that is newer than all of the client's enters the log of the first member.
     fn enter_new(
         &mut self,
         client: ClientId,
         seq: u64,
         command: &Command,
     ) -> Result<Effects, NoMemory>
-        requires { self.old.failed ≡ false }
-        ensures { Does self.old (enters_new self.old.server (record { client = client; seq = seq; command = command.now })) result self.new }
+        requires whole { self.old.failed ≡ false }
+        requires newer { highest_seq client self.old.server.log < seq }
+        ensures { Does self.old (enters_new self.old.server (entry_of client seq command.now)) result self.new }
     {
-        if !self.may_enter(client, seq) {
+        if !self.is_first() {
             return Ok(Effects::none(self.alloc));
         }
         self.failed = true;
         let command = command.copy(self.alloc)?;
         self.failed = false;
-        self.enter(&Entry {
+        self.enter(Entry {
             client,
             seq,
             command,
         })
     }
 
+    // The client's last applied entry is replied once more, where it has this number.
+    fn reply_again(&mut self, client: ClientId, seq: u64) -> Result<Effects, NoMemory>
+        requires { self.old.failed ≡ false }
+        ensures { Does self.old (replies_again self.old.server seq (last_of client (done_of (acknowledged self.old.server)))) result self.new }
+    {
+        self.failed = true;
+        let effects = match repeated(self.id, &self.board, client, seq)? {
+            Some(packet) => Effects::of_packet(self.alloc, packet)?,
+            None => Effects::none(self.alloc),
+        };
+        self.failed = false;
+        Ok(effects)
+    }
+
     // A client asks for its command of this number.
+    #[tactic(auto, using(crate::proofs::RequestLemmas::request_is_new, crate::proofs::RequestLemmas::request_is_old))]
     pub(super) fn take_request(
         &mut self,
         client: ClientId,
@@ -96,17 +110,10 @@ impl<B: Board> Server<B> {
         if !self.view.in_chain(self.id) {
             return Ok(Effects::none(self.alloc));
         }
-        self.failed = true;
-        match repeated(self.id, &self.board, client, seq)? {
-            Some(packet) => {
-                let effects = Effects::of_packet(self.alloc, packet)?;
-                self.failed = false;
-                Ok(effects)
-            }
-            None => {
-                self.failed = false;
-                self.enter_new(client, seq, command)
-            }
+        if self.log.highest_seq(client) < seq {
+            self.enter_new(client, seq, command)
+        } else {
+            self.reply_again(client, seq)
         }
     }
 }

@@ -1,5 +1,5 @@
 use Rattle.std.proofs.Common.{◌+◌, refl, ap, sym, ◌∙◌}
-use Rattle.chain_server.proofs.PrefixLemmas.{applied_next, applied_done}
+use Rattle.chain_server.proofs.AppliedLemmas.{applied_next, applied_done}
 use Rattle.chain_server.proofs.advance.apply_next.Goals as goal
 
 pub returns-clause-prefix : goal.returns-clause-prefix

@@ -1,6 +1,6 @@
 use Rattle.std.proofs.Common.{◌≡◌, ◌++◌, length}
 use Rattle.kr_order.specs.Done.{done_of}
-use Rattle.chain_server.specs.Whole.{IsPrefix}
+use Rattle.kr_order.specs.Prefix.{IsPrefix}
 use Rattle.chain_server.proofs.advance.apply_upto.Given as goal
 
 abbrev pub invariant-loop-place : goal.invariant-loop-place

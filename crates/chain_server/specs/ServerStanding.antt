@@ -7,7 +7,7 @@ use Rattle.kr_order.specs.declared.view.View.{View}
 use Rattle.kr_protocol.specs.Server.{Server}
 
 -- the server of the protocol, and whether a call on it found no memory
-pub record Standing : Type 0 where
+pub record ServerStanding : Type 0 where
   pub server : Server
   pub failed : Bool
 

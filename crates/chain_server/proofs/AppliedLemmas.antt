@@ -1,8 +1,8 @@
 -- What is applied is a prefix of the log, one entry after the other.
-use Rattle.std.proofs.Common.{◌≡◌, ℕ, ◌+◌, ◌-◌, ◌<◌, ◌≤◌, Bool, true, false, cond, eqb, List, [], ◌∷◌, ◌++◌, length, take, get_or, refl, ap, sym, ◌∙◌, subst, arith}
+use Rattle.std.proofs.Common.{◌≡◌, ℕ, ◌+◌, ◌-◌, ◌<◌, Bool, true, false, cond, eqb, List, [], ◌∷◌, ◌++◌, length, take, get_or, refl, ap, sym, ◌∙◌, subst, arith}
 use Rattle.std.specs.Prelude.{slice_get, None, Some}
 use Rattle.std.proofs.lemmas.Bool.{eqb-true}
-use Rattle.std.proofs.lemmas.List.{length-take, length-take-le, take-append-le, take_more}
+use Rattle.std.proofs.lemmas.List.{length-take-le, take_more}
 use Rattle.std.proofs.lemmas.Option.{get_or_from_slice_get}
 use Rattle.kr_order.specs.declared.history.Entry.{Entry}
 use Rattle.kr_order.specs.declared.history.DoneEntry.{DoneEntry}
@@ -10,17 +10,13 @@ use Rattle.kr_order.specs.declared.history.Reply.{Reply}
 use Rattle.kr_order.specs.Reply.{reply_to}
 use Rattle.kr_order.specs.Done.{done_after, done_of}
 use Rattle.kr_order.proofs.HistoryLemmas.{done_of-push}
+use Rattle.kr_order.proofs.PrefixLemmas.{IsPrefix-append, IsPrefix-take, IsPrefix-trans, take_front}
 use Rattle.cmd_log.specs.Places.{entry_at}
-use Rattle.chain_server.specs.Whole.{IsPrefix}
-
--- a prefix is no longer than the log
-pub IsPrefix-le : (history log : List Entry) → IsPrefix history log → length history ≤ length log
-IsPrefix-le history log prefix = omega (arith, ap length prefix.is, length-take (length history) log)
+use Rattle.kr_order.specs.Prefix.{IsPrefix}
 
 -- it is one of a longer log too
-pub IsPrefix-append : (history log more : List Entry) → IsPrefix history log → IsPrefix history (log ++ more)
-IsPrefix-append history log more prefix =
-    record { is = prefix.is ∙ sym (take-append-le (length history) log more (IsPrefix-le history log prefix)) }
+pub IsPrefix-longer : (history log more : List Entry) → IsPrefix history log → IsPrefix history (log ++ more)
+IsPrefix-longer history log more front = IsPrefix-trans history log (log ++ more) front (IsPrefix-append log more)
 
 -- the entry at a place
 entry_there : (log : List Entry) (place n : ℕ) (entry : Entry) → place ≡ n + 1 → entry_at log place ≡ Some entry → slice_get log n ≡ Some entry
@@ -35,7 +31,7 @@ pub applied_next : (log history new : List Entry) (entry : Entry) (place : ℕ) 
 applied_next log history new entry place prefix below is there grown =
     let found : slice_get log (length history) ≡ Some entry = entry_there log place (length history) entry is there in
     let same : get_or log (length history) entry ≡ entry = get_or_from_slice_get log (length history) entry entry found in
-    grown ∙ ap (λ h. h ++ entry ∷ []) prefix.is ∙ ap (λ e. take (length history) log ++ e ∷ []) (sym same) ∙ sym (take_more log (length history) entry below)
+    grown ∙ ap (λ h. h ++ entry ∷ []) (sym (take_front history log prefix)) ∙ ap (λ e. take (length history) log ++ e ∷ []) (sym same) ∙ sym (take_more log (length history) entry below)
 
 abbrev done_at : ℕ → Entry → Reply → DoneEntry
 done_at place entry reply = record { place = place; entry = entry; reply = reply }
@@ -49,8 +45,7 @@ applied_done history new entry done place is reply grown =
 -- the prefix of one more entry
 pub IsPrefix-next : (log history new : List Entry) → length history < length log → new ≡ take (length history + 1) log → IsPrefix new log
 IsPrefix-next log history new below is =
-    let size : length new ≡ length history + 1 = ap length is ∙ length-take-le (length history + 1) log (omega arith) in
-    record { is = is ∙ ap (λ n. take n log) (sym size) }
+    subst (λ (h : List Entry). IsPrefix h log) (sym is) (IsPrefix-take (length history + 1) log)
 
 pub length-next : (log history new : List Entry) → length history < length log → new ≡ take (length history + 1) log → length new ≡ length history + 1
 length-next log history new below is = ap length is ∙ length-take-le (length history + 1) log (omega arith)

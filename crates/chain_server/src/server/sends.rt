@@ -1,0 +1,60 @@
+//! What a server sends to the servers beside it, and what it does when its time has come.
+
+ghost use Rattle.std.specs.Prelude.{◌≡◌, IfOk};
+ghost use Rattle.kr_protocol.specs.Server.{window, ack_to, ack, server_ticks};
+ghost use Rattle.chain_server.specs.Calls.{Does};
+
+use super::Server;
+use crate::Effects;
+use kr_order::{Message, NoMemory, Node, Packet, Packets, ServerId};
+use order_state::Board;
+
+impl<B: Board> Server<B> {
+    // What is passed on to the next server.
+    pub(super) fn window(&self) -> Result<Packets, NoMemory>
+        ensures { IfOk result (λ packets. packets ≡ window self.now.server) }
+    {
+        self.link.window(self.alloc, self.id, &self.log)
+    }
+
+    // How many entries are acknowledged, and how many the log has, for this server, if there is one.
+    pub(super) fn ack_to(&self, to: Option<ServerId>) -> Result<Packets, NoMemory>
+        ensures { IfOk result (λ packets. packets ≡ ack_to self.now.server to) }
+    {
+        let mut packets = Packets::new(self.alloc);
+        let Some(to) = to else {
+            return Ok(packets);
+        };
+        let done = self.board.count();
+        let len = self.log.len();
+        packets.push(Packet {
+            from: Node::Server(self.id),
+            to: Node::Server(to),
+            message: Message::Ack { done, len },
+        })?;
+        Ok(packets)
+    }
+
+    // The same for the server before.
+    pub(super) fn ack(&self) -> Result<Packets, NoMemory>
+        ensures { IfOk result (λ packets. packets ≡ ack self.now.server) }
+    {
+        self.ack_to(self.view.prev_of(self.id))
+    }
+
+    /// The server's time has come: it tells the server before it what it has, and passes on to the next one what
+    /// that may lack. The server itself stays as it is, unless it fails.
+    pub fn tick(&mut self) -> Result<Effects, NoMemory>
+        ensures { Does self.old (server_ticks self.old.server) result self.new }
+    {
+        if self.failed {
+            return Err(NoMemory);
+        }
+        self.failed = true;
+        let mut packets = self.ack()?;
+        let window = self.window()?;
+        packets.append(window)?;
+        self.failed = false;
+        Ok(Effects::of_packets(self.alloc, packets))
+    }
+}

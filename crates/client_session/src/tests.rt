@@ -1,0 +1,137 @@
+//! Calls of a client, where memory suffices.
+
+ghost use Rattle.std.specs.Prelude.{◌≡◌, IfOk};
+
+use super::*;
+use kr_order::{
+    Answer, Answers, Asked, ClientId, Command, EventId, Message, NoMemory, Node, Packet, Placed,
+    Reply, ServerId, Servers, Told, View,
+};
+use std::alloc::Global;
+use std::test::Fail;
+
+const OWN: ClientId = ClientId(7);
+
+const HEAD: ServerId = ServerId(1);
+
+const TAIL: ServerId = ServerId(2);
+
+// A client that has begun nothing, and knows the view of these two servers.
+fn client(alloc: Global) -> Result<Client, NoMemory>
+    ensures seq { IfOk result (λ client. client.client.seq ≡ 0) }
+    ensures q { IfOk result (λ client. client.client.q ≡ 0) }
+{
+    let mut chain = Servers::new(alloc);
+    chain.push(HEAD)?;
+    chain.push(TAIL)?;
+    let view = View {
+        number: 1,
+        chain,
+        joiner: None,
+    };
+    Client::new(alloc, OWN, view)
+}
+
+// One pair of events.
+fn pairs(alloc: Global) -> Result<Asked, Fail> {
+    let mut pairs = Asked::new(alloc);
+    pairs.push((EventId(1), EventId(2)))?;
+    Ok(pairs)
+}
+
+// A packet of a server to the client.
+fn said(server: ServerId, message: Message) -> Packet {
+    Packet {
+        from: Node::Server(server),
+        to: Node::Client(OWN),
+        message,
+    }
+}
+
+// Whether this is a request of this number for a create, to this server.
+fn is_request(packet: &Packet, to: ServerId, number: u64) -> bool {
+    match &packet.message {
+        Message::Request {
+            seq,
+            command: Command::Create,
+        } => *seq == number && packet.to == Node::Server(to),
+        _ => false,
+    }
+}
+
+// Whether this asks this server about one pair in the query of this number.
+fn is_ask(packet: &Packet, to: ServerId, number: u64) -> bool {
+    match &packet.message {
+        Message::Ask { q, part: 1, pairs } => *q == number
+            && pairs.len() == 1
+            && packet.to == Node::Server(to),
+        _ => false,
+    }
+}
+
+// The answer of the first server to the client's first query.
+fn answered(alloc: Global, answer: Answer) -> Result<Packet, NoMemory> {
+    let mut answers = Answers::new(alloc);
+    answers.push(answer)?;
+    let told = Told { entry: 3, answers };
+    Ok(said(
+        HEAD,
+        Message::Answered {
+            q: 1,
+            part: 1,
+            told,
+        },
+    ))
+}
+
+#[test]
+fn an_open_command_is_requested_again_with_its_number(rt: HostRuntime) -> Result<(), Fail> {
+    let mut client = client(rt.alloc())?;
+    assert!(&rt; is_request(&client.begin(Command::Create)?, HEAD, 1));
+    assert!(&rt; is_request(&client.retry(TAIL)?, TAIL, 1));
+    assert!(&rt; is_request(&client.retry(HEAD)?, HEAD, 1));
+    Ok(())
+}
+
+#[test]
+fn an_open_query_is_asked_again_with_its_number(rt: HostRuntime) -> Result<(), Fail> {
+    let alloc = rt.alloc();
+    let mut client = client(alloc)?;
+    assert!(&rt; is_ask(&client.ask(&pairs(alloc)?, HEAD)?, HEAD, 1));
+    assert!(&rt; is_ask(&client.retry(TAIL)?, TAIL, 1));
+    Ok(())
+}
+
+#[test]
+fn nothing_is_tried_again_where_no_call_is_open(rt: HostRuntime) -> Result<(), Fail> {
+    let client = client(rt.alloc())?;
+    assert!(&rt; matches!(client.retry(HEAD), Err(RetryStop::NothingOpen)));
+    assert_eq!(&rt; client.known().chain.len(), 2);
+    Ok(())
+}
+
+#[test]
+fn a_reply_closes_the_open_command(rt: HostRuntime) -> Result<(), Fail> {
+    let mut client = client(rt.alloc())?;
+    let _ = client.begin(Command::Create)?;
+    let placed = Placed {
+        place: 4,
+        reply: Reply::Created(EventId(1)),
+    };
+    let heard = client.take(&said(TAIL, Message::Replied { seq: 1, placed }))?;
+    assert!(&rt; heard.told.is_some() && !client.is_busy());
+    assert_eq!(&rt; (client.begun(), client.seen()), (1, 4));
+    Ok(())
+}
+
+#[test]
+fn answers_that_are_unsure_are_ignored(rt: HostRuntime) -> Result<(), Fail> {
+    let alloc = rt.alloc();
+    let mut client = client(alloc)?;
+    let _ = client.ask(&pairs(alloc)?, HEAD)?;
+    let unsure = client.take(&answered(alloc, Answer::Unsure)?)?;
+    assert!(&rt; unsure.parts.len() == 0 && client.is_busy());
+    let sure = client.take(&answered(alloc, Answer::Before)?)?;
+    assert!(&rt; sure.parts.len() == 1 && !client.is_busy());
+    Ok(())
+}
