@@ -1,95 +1,128 @@
 -- A client's call keeps the facts.
-use Rattle.std.proofs.Common.{◌≡◌, ◌≢◌, ℕ, ◌+◌, ◌-◌, ◌≤◌, eqb, List, [], ◌∷◌, ◌++◌, length, refl, sym, ap, ◌∙◌, subst, arith, inl, inr}
-use Rattle.std.specs.Prelude.{None, Some, slice_get}
-use Rattle.std.proofs.lemmas.Bool.{cases_eq, cond-true, cond-false, eq-eqb, ne_eqb}
+use Rattle.std.proofs.Common.{◌≡◌, ℕ, ◌+◌, ◌-◌, ◌≤◌, List, [], ◌∷◌, ◌++◌, length, refl, sym, ap, ◌∙◌, subst, arith, inl, inr}
+use Rattle.std.specs.Prelude.{None, Some, slice_get, slice_set}
+use Rattle.std.proofs.lemmas.Bool.{cases_eq}
 use Rattle.std.proofs.lemmas.List.{length_push}
-use Rattle.std.proofs.lemmas.List.Elements.{All-nil, All-cons, All-append}
-use Rattle.std.proofs.lemmas.Option.{none-some}
+use Rattle.std.proofs.lemmas.List.Elements.{All-nil, All-cons}
+use Rattle.std.proofs.lemmas.Option.{none-some, same_Some}
 use Rattle.kr_order.specs.declared.ids.ClientId.{ClientId}
 use Rattle.kr_order.specs.declared.history.Command.{Command}
-use Rattle.kr_order.proofs.FrontLemmas.{IsFrontOf-refl}
+use Rattle.kr_order.proofs.PrefixLemmas.{IsPrefix-refl}
 use Rattle.kr_protocol.specs.Client.{Client, begins}
 use Rattle.script_lang.specs.declared.script.Event.TheVariants.{Call}
-use Rattle.kr_world.specs.World.{World, client_at}
-use Rattle.kr_world.specs.Step.{Outcome, client_sends}
+use Rattle.kr_world.specs.World.{World}
+use Rattle.kr_world.specs.Step.{client_sends}
 use Rattle.kr_world.specs.Run.{Turn}
-use Rattle.kr_world.specs.Lawful.{IsToldTruly, begins_by, begun_by, entries_of, seen_by}
-use Rattle.kr_world.specs.Facts.{HasBegun, IsTruePacket, IsToldPart, IsTrueClient, AreFacts}
-use Rattle.kr_world.proofs.ListFacts.{slice_get_at, each_after_set}
-use Rattle.kr_world.proofs.PastLemmas.{begun_by-push, begun_same, asked_same, seen_same}
-use Rattle.kr_world.proofs.PacketLemmas.{same_client, packets_later, servers_later}
-use Rattle.kr_world.proofs.KeepLemmas.{turn_of, Keeps, fresh_more, numbered_later, client_later}
+use Rattle.kr_world.specs.Lawful.{begun_by, entries_of}
+use Rattle.kr_world.specs.Facts.{HasBegun, IsTruePacket, IsTrueClient, AreFacts, asked_by}
+use Rattle.kr_world.proofs.ListFacts.{slice_get_at}
+use Rattle.kr_world.proofs.PastLemmas.{begun_by-push, begun_same, asked_same, others_begin, caller_begins}
+use Rattle.kr_world.proofs.PacketLemmas.{same_client}
+use Rattle.kr_world.proofs.FactLemmas.{begun_facts, sent_facts}
+use Rattle.kr_world.proofs.KeepLemmas.{turn_of, Keeps, tells_nothing}
+use Rattle.kr_world.proofs.ClientLemmas.{IsPresent, its_facts, own_id, other_id}
 use Rattle.kr_world.proofs.FreshLemmas.{request_fresh}
 
--- the caller has begun one command more
-begun_own : (past : List Turn) (world : World) (caller other : ClientId) (command : Command) (outcome : Outcome) → outcome.refused ≡ None → caller.0 ≡ other.0 → begun_by other (past ++ turn_of world (Call caller command) outcome ∷ []) ≡ begun_by other past ++ command ∷ []
-begun_own past world caller other command outcome none same =
-    let begins : begins_by other (Call caller command) outcome.refused ≡ command ∷ [] = ap (begins_by other (Call caller command)) none ∙ cond-true (eqb caller.0 other.0) (command ∷ []) [] (eq-eqb caller.0 other.0 same) in
-    begun_by-push other past (turn_of world (Call caller command) outcome) ∙ ap (λ b. begun_by other past ++ b) begins
+-- a client that may begin a command
+pub record MayCall (past : List Turn) (world : World) (caller : ClientId) (client : Client) : Type 0 where
+  pub low : 1 ≤ caller.0
+  pub here : IsPresent past world caller client
+  pub no_command : client.call ≡ None
+  pub no_query : client.asking ≡ None
 
-others_begin : (caller other : ClientId) (command : Command) → caller.0 ≢ other.0 → begins_by other (Call caller command) None ≡ []
-others_begin caller other command different = cond-false (eqb caller.0 other.0) (command ∷ []) [] (ne_eqb caller.0 other.0 different)
+-- the turn in which it does
+abbrev call_turn : World → ClientId → Command → Client → Turn
+call_turn world caller command client = turn_of world (Call caller command) (client_sends world caller (begins client command))
+
+-- it has begun one command more
+begun_own : (past : List Turn) (world : World) (caller : ClientId) (command : Command) (client : Client)
+    → MayCall past world caller client
+    → begun_by client.id (past ++ call_turn world caller command client ∷ []) ≡ begun_by client.id past ++ command ∷ []
+begun_own past world caller command client may =
+    let turn = call_turn world caller command client in
+    let same : caller.0 ≡ client.id.0 = ap (λ (c : ClientId). c.0) (sym (own_id past world caller client may.here may.low)) in
+    begun_by-push client.id past turn ∙ ap (λ b. begun_by client.id past ++ b) (caller_begins caller client.id command same)
+
+-- it is the one that is requested
+newly_begun : (past : List Turn) (world : World) (caller : ClientId) (command : Command) (client : Client)
+    → MayCall past world caller client
+    → HasBegun (past ++ call_turn world caller command client ∷ []) client.id (client.seq + 1) command
+newly_begun past world caller command client may =
+    let known = its_facts past world caller client may.here in
+    let id = known.id in
+    let seq = known.seq in
+    let begun = begun_by client.id past in
+    let last : slice_get (begun ++ command ∷ []) (client.seq + 1 - 1) ≡ Some command = slice_get_at begun command [] (client.seq + 1 - 1) (omega arith) in
+    record {
+      caller_low = omega arith;
+      seq_low = omega arith;
+      begun = ap (λ b. slice_get b (client.seq + 1 - 1)) (begun_own past world caller command client may) ∙ last;
+    }
 
 -- the client with its open call
-caller_later : (past : List Turn) (world : World) (caller : ClientId) (command : Command) (i : ℕ) (client : Client) → caller.0 ≡ client.id.0 → client.asking ≡ None → IsTrueClient past world.history world.bag i client → IsTrueClient (past ++ turn_of world (Call caller command) (client_sends world caller (begins client command)) ∷ []) world.history (world.bag ++ (begins client command).sent) i (begins client command).after
-caller_later past world caller command i client same free known =
-    let outcome = client_sends world caller (begins client command) in
-    let turn = turn_of world (Call caller command) outcome in
-    let begun = begun_own past world caller client.id command outcome refl same in
+caller_later : (past : List Turn) (world : World) (caller : ClientId) (command : Command) (client : Client)
+    → MayCall past world caller client
+    → IsTrueClient (past ++ call_turn world caller command client ∷ []) world.history world.bag (caller.0 - 1) (begins client command).after
+caller_later past world caller command client may =
+    let turn = call_turn world caller command client in
+    let later = past ++ turn ∷ [] in
+    let known = its_facts past world caller client may.here in
     let seq = known.seq in
     let old = known.old in
+    let begun = newly_begun past world caller command client may in
     record {
       id = known.id;
-      seq = omega (arith, ap length begun, length_push (begun_by client.id past) command);
+      seq = omega (arith, ap length (begun_own past world caller command client may), length_push (begun_by client.id past) command);
+      command = λ other is. subst (HasBegun later client.id (client.seq + 1)) (same_Some command other is) begun;
       idle = λ none. absurd (none-some command (sym none));
-      seen = known.seen ∙ sym (seen_same client.id past turn refl);
       within = known.within;
       old = omega arith;
       q = known.q ∙ sym (ap length (asked_same client.id past turn refl));
-      query = λ pairs is. absurd (none-some pairs (sym free ∙ is));
+      query = λ pairs is. absurd (none-some pairs (sym may.no_query ∙ is));
     }
 
-pub call_keeps : (past : List Turn) (world : World) (caller : ClientId) (command : Command) (client : Client) → 1 ≤ caller.0 → client_at world caller ≡ Some client → client.call ≡ None → client.asking ≡ None → AreFacts past world → Keeps past (turn_of world (Call caller command) (client_sends world caller (begins client command)))
-call_keeps past world caller command client low is idle free facts =
-    let outcome = client_sends world caller (begins client command) in
-    let turn = turn_of world (Call caller command) outcome in
+-- of what each client has begun at most the last is not in the history
+still_one_open : (past : List Turn) (world : World) (caller : ClientId) (command : Command) (client : Client)
+    → MayCall past world caller client → (other : ClientId)
+    → length (begun_by other (past ++ call_turn world caller command client ∷ [])) ≤ length (entries_of other world.history) + 1
+still_one_open past world caller command client may other =
+    let turn = call_turn world caller command client in
     let later = past ++ turn ∷ [] in
-    let history = world.history in
-    let sent = (begins client command).sent in
-    let known = facts.clients (caller.0 - 1) client is in
-    let id = known.id in
+    let known = its_facts past world caller client may.here in
     let seq = known.seq in
-    let same : caller.0 ≡ client.id.0 = omega arith in
-    let all : length (entries_of client.id history) ≡ client.seq = known.idle idle in
-    let begun = begun_own past world caller client.id command outcome refl same in
-    let request : HasBegun later client.id (client.seq + 1) command = record {
-      caller_low = omega arith;
-      seq_low = omega arith;
-      begun = ap (λ b. slice_get b (client.seq + 1 - 1)) begun ∙ slice_get_at (begun_by client.id past) command [] (client.seq + 1 - 1) (omega arith);
-    } in
+    elim (cases_eq caller.0 other.0) [
+      | inl same ↦
+          let its : client.id ≡ other = own_id past world caller client may.here may.low ∙ same_client caller other same in
+          let all : length (entries_of client.id world.history) ≡ client.seq = known.idle may.no_command in
+          let begun = ap length (begun_own past world caller command client may) in
+          let own : length (begun_by client.id later) ≤ length (entries_of client.id world.history) + 1 = omega (arith, length_push (begun_by client.id past) command) in
+          subst (λ c. length (begun_by c later) ≤ length (entries_of c world.history) + 1) its own
+      | inr different ↦
+          let open_before = may.here.facts.in_step.one_open other in
+          omega (arith, ap length (begun_same other past turn (others_begin caller other command different)))
+    ]
+
+called_facts : (past : List Turn) (world : World) (caller : ClientId) (command : Command) (client : Client)
+    → MayCall past world caller client
+    → AreFacts (past ++ call_turn world caller command client ∷ []) (record world { clients = slice_set world.clients (caller.0 - 1) (begins client command).after })
+called_facts past world caller command client may =
+    let turn = call_turn world caller command client in
+    let facts = may.here.facts in
+    let alone = λ (other : ClientId) (some : 1 ≤ length (asked_by other (past ++ turn ∷ []))). facts.alone other (subst (λ asked. 1 ≤ length asked) (asked_same other past turn refl) some) in
+    begun_facts past turn world (caller.0 - 1) (begins client command).after (still_one_open past world caller command client may) alone (λ j other different there. record {
+      commands = others_begin caller other.id command (other_id past world caller facts may.low j other different there);
+      queries = refl;
+    }) (caller_later past world caller command client may) facts
+
+pub call_keeps : (past : List Turn) (world : World) (caller : ClientId) (command : Command) (client : Client)
+    → MayCall past world caller client → Keeps past (call_turn world caller command client)
+call_keeps past world caller command client may =
+    let later = past ++ call_turn world caller command client ∷ [] in
+    let calling = record world { clients = slice_set world.clients (caller.0 - 1) (begins client command).after } in
+    let Truly = IsTruePacket later world.history in
+    let said = All-cons Truly _ [] (newly_begun past world caller command client may) (All-nil Truly) in
+    let fresh = λ (i : ℕ) (other : Client) (there : slice_get calling.clients i ≡ Some other). request_fresh other.id other.q other.seen _ _ (client.seq + 1) command in
     record {
-      facts = record {
-        packets = All-append (IsTruePacket later history) world.bag sent (packets_later past (turn ∷ []) history history world.bag (IsFrontOf-refl history) facts.packets) (All-cons (IsTruePacket later history) _ [] request (All-nil (IsTruePacket later history)));
-        in_step = record {
-          numbered = λ other. numbered_later other past turn (entries_of other history) (facts.in_step.numbered other);
-          one_open = λ other. elim (cases_eq caller.0 other.0) [
-            | inl own ↦
-                let its : client.id ≡ other = same_client client.id other (omega arith) in
-                subst (λ c. length (begun_by c later) ≤ length (entries_of c history) + 1) its (omega (arith, ap length begun, length_push (begun_by client.id past) command))
-            | inr different ↦
-                let open_before = facts.in_step.one_open other in
-                omega (arith, ap length (begun_same other past turn (others_begin caller other command different)))
-          ];
-        };
-        clients = each_after_set (IsTrueClient later history (world.bag ++ sent)) world.clients (caller.0 - 1) (begins client command).after (caller_later past world caller command (caller.0 - 1) client same free known) (λ j other different found.
-            let its = facts.clients j other found in
-            let its_id = its.id in
-            let apart : caller.0 ≢ other.id.0 = omega arith in
-            client_later past turn history history world.bag (world.bag ++ sent) j other (record { commands = others_begin caller other.id command apart; queries = refl; told = refl }) (IsFrontOf-refl history) (facts.in_step.numbered other.id) (fresh_more history world.bag sent (λ id q seen le. request_fresh id q seen _ _ (client.seq + 1) command)) its);
-        servers = servers_later past (turn ∷ []) world.servers facts.servers;
-        alone = λ other some. facts.alone other (subst (λ asked. 1 ≤ length asked) (asked_same other past turn refl) some);
-      };
-      grows = IsFrontOf-refl history;
-      told = All-nil (λ told. IsToldTruly history (seen_by told.client past) told);
-      parts = All-nil (λ part. IsToldPart history (seen_by part.client past) part.part);
+      facts = sent_facts later calling (begins client command).sent said fresh (called_facts past world caller command client may);
+      tells = tells_nothing world (client_sends world caller (begins client command)) refl refl (IsPrefix-refl world.history);
     }

@@ -1,52 +1,17 @@
 -- How logs stand to each other along the chain, and to the history.
-use Rattle.std.proofs.Common.{zero, suc, ◌≡◌, ℕ, ◌+◌, ◌-◌, ◌<◌, ◌≤◌, Bool, true, false, cond, ltb, leb, List, [], ◌∷◌, ◌++◌, length, take, drop, get_or, refl, sym, ap, ◌∙◌, subst, arith, inl, inr}
-use Rattle.std.specs.Prelude.{Some, slice_get, slice_set, All}
-use Rattle.std.proofs.lemmas.Bool.{cases_lt, leb-true, ltb-true, ltb-false}
-use Rattle.std.proofs.lemmas.List.{append-nil, length-drop, drop-take, drop-drop, take_all, drop_all}
-use Rattle.std.proofs.Math.Seq.{take-add}
-use Rattle.std.proofs.lemmas.List.Elements.{All-head, All-tail, All-weaker}
-use Rattle.std.proofs.lemmas.Option.{same_Some, slice_get_within, slice_get-get_or}
+use Rattle.std.proofs.Common.{zero, suc, ◌≡◌, ℕ, ◌+◌, ◌-◌, ◌<◌, List, [], ◌∷◌, length, get_or, refl, sym, ap, ◌∙◌, subst, arith}
+use Rattle.std.specs.Prelude.{None, Some, slice_get}
+use Rattle.std.proofs.lemmas.Option.{none-some, same_Some, slice_get_within, slice_get_past, slice_get-get_or}
 use Rattle.kr_order.specs.declared.history.Entry.{Entry}
 use Rattle.kr_order.specs.declared.ids.ServerId.{ServerId}
-use Rattle.kr_order.specs.Front.{IsFrontOf}
+use Rattle.kr_order.specs.declared.view.View.{View}
+use Rattle.kr_order.specs.Prefix.{IsPrefix}
 use Rattle.kr_order.specs.View.{first_view, prev_of}
-use Rattle.kr_order.proofs.FrontLemmas.{IsFrontOf-refl, IsFrontOf-trans, IsFrontOf-take, take_front}
-use Rattle.kr_protocol.specs.Server.{Server, acknowledged, missing}
-use Rattle.kr_world.specs.World.{longer, longest}
-use Rattle.kr_world.specs.Sound.{LogsRise}
-use Rattle.kr_world.proofs.ViewLemmas.{server_id, prev_in_first_view}
-
--- what a log lacks of entries of another log that it is a front of, put behind it
-received : (xs ys es : List Entry) (first : ℕ) → IsFrontOf xs ys → 1 ≤ first → es ≡ take (length es) (drop (first - 1) ys) → first ≤ length xs + 1 → IsFrontOf (xs ++ drop (length xs + 1 - first) es) ys
-received xs ys es first front low stand near =
-    let n = length xs in
-    let k = n + 1 - first in
-    let m = length es in
-    elim (cases_lt m k) [
-      | inl short ↦
-          let none : drop k es ≡ [] = drop_all k es (omega arith) in
-          subst (λ l. IsFrontOf l ys) (sym (ap (λ l. xs ++ l) none ∙ append-nil xs)) front
-      | inr long ↦
-          let rest : List Entry = drop (first - 1) ys in
-          let cut : drop k es ≡ take (m - k) (drop n ys) = ap (drop k) (stand ∙ ap (λ i. take i rest) (omega arith)) ∙ drop-take k (m - k) rest ∙ ap (take (m - k)) (drop-drop k (first - 1) ys ∙ ap (λ i. drop i ys) (omega arith)) in
-          let whole : xs ++ drop k es ≡ take (n + (m - k)) ys = ap (λ l. l ++ drop k es) (sym (take_front xs ys front)) ∙ ap (λ l. take n ys ++ l) cut ∙ sym (take-add n (m - k) ys) in
-          subst (λ l. IsFrontOf l ys) (sym whole) (IsFrontOf-take (n + (m - k)) ys)
-    ]
-
-pub receives : (xs ys es : List Entry) (first : ℕ) → IsFrontOf xs ys → 1 ≤ first → es ≡ take (length es) (drop (first - 1) ys) → IsFrontOf (xs ++ missing xs first es) ys
-receives xs ys es first front low stand = by_test (leb first (length xs + 1)) refl
-  where
-    by_test : (near : Bool) → leb first (length xs + 1) ≡ near → IsFrontOf (xs ++ missing xs first es) ys
-    by_test true is = rw is (received xs ys es first front low stand (leb-true first (length xs + 1) is))
-    by_test false is = rw is (subst (λ l. IsFrontOf l ys) (sym (append-nil xs)) front)
-
--- no more is appended than came
-pub missing_few : (xs es : List Entry) (first : ℕ) → length (missing xs first es) ≤ length es
-missing_few xs es first = by_test (leb first (length xs + 1))
-  where
-    by_test : (near : Bool) → length (cond near (drop (length xs + 1 - first) es) []) ≤ length es
-    by_test true = omega (arith, length-drop (length xs + 1 - first) es)
-    by_test false = omega arith
+use Rattle.kr_order.proofs.PrefixLemmas.{IsPrefix-refl, IsPrefix-trans}
+use Rattle.kr_protocol.specs.Server.{Server, viewed, prev}
+use Rattle.kr_world.specs.World.{World}
+use Rattle.kr_world.specs.Sound.{IsSound, IsOwnView, IsBelowPredecessor, LastHolds}
+use Rattle.kr_world.proofs.ViewLemmas.{server_id, prev_in_first_view, last_of_members}
 
 -- the server at an index has the number that follows it
 abbrev pub AreNumbered : List Server → Type 0
@@ -55,62 +20,105 @@ AreNumbered servers = (i : ℕ) (server : Server) → slice_get servers i ≡ So
 pub same_server : (a b : ServerId) → a.0 ≡ b.0 → a ≡ b
 same_server a b is = ap server_id is
 
+-- the servers of the first view: each is at its number, and has no more in its log than the one before it
+pub record IsChain (servers : List Server) : Type 0 where
+  pub numbered : AreNumbered servers
+  pub adopted :
+      (i : ℕ) (server : Server)
+      → slice_get servers i ≡ Some server
+      → server.view ≡ Some (first_view (length servers))
+  pub below : (i : ℕ) (server : Server) → slice_get servers i ≡ Some server → IsBelowPredecessor servers server
+
+-- the one view of the list
+pub only_view : (n k : ℕ) (view : View) → slice_get (first_view n ∷ []) k ≡ Some view → view ≡ first_view n
+only_view n zero view is = sym (same_Some (first_view n) view is)
+only_view n (suc k) view is = absurd (none-some view (sym (slice_get_past {X = View} [] k (omega arith)) ∙ is))
+
+-- the view that a server has adopted, where the manager has made one
+pub own_view_is : (n : ℕ) (server : Server) → IsOwnView (first_view n ∷ []) server → server.view ≡ Some (first_view n)
+own_view_is n server own = own.adopted ∙ ap (λ v. Some v) (only_view n (own.view.number - 1) own.view own.listed)
+
+pub chain_of : (world : World) → IsSound world → IsChain world.servers
+chain_of world sound =
+    let n = length world.servers in
+    record {
+      numbered = λ i server there. (sound.servers i server there).id;
+      adopted = λ i server there. own_view_is n server (subst (λ views. IsOwnView views server) sound.views (sound.servers i server there).own_view);
+      below = λ i server there. (sound.servers i server there).below;
+    }
+
+-- of two servers that follow each other in a listed view, the earlier has all that the later has
+abbrev pub LogsRise : List View → List Server → Type 0
+LogsRise views servers =
+    (k i j : ℕ) (view : View) (server before : Server)
+    → slice_get views k ≡ Some view
+    → slice_get servers i ≡ Some server
+    → slice_get servers j ≡ Some before
+    → prev_of view server.id ≡ Some before.id
+    → IsPrefix server.log before.log
+
+chain_rises : (servers : List Server) → IsChain servers → LogsRise (first_view (length servers) ∷ []) servers
+chain_rises servers chain k i j view server before listed at at' follows =
+    let its : view ≡ first_view (length servers) = only_view (length servers) k view listed in
+    let named : prev server ≡ Some before.id =
+    ap (λ v. viewed None prev_of v server.id) (chain.adopted i server at) ∙ ap (λ v. prev_of v server.id) (sym its) ∙ follows in
+    chain.below i server at j before at' named
+
+-- logs rise, in every sound world
+pub logs_rise : (world : World) → IsSound world → LogsRise world.views world.servers
+logs_rise world sound =
+    subst (λ views. LogsRise views world.servers) (sym sound.views) (chain_rises world.servers (chain_of world sound))
+
 -- the log of each server is a front of those before it
-pub descends : (n : ℕ) (servers : List Server) → LogsRise (first_view n ∷ []) servers → length servers ≡ n → AreNumbered servers → (d i j : ℕ) (server later : Server) → j ≡ i + d → slice_get servers i ≡ Some server → slice_get servers j ≡ Some later → IsFrontOf later.log server.log
-descends n servers rise count ids zero i j server later is at at' =
+pub descends :
+    (servers : List Server)
+    → IsChain servers
+    → (d i j : ℕ) (server later : Server)
+    → j ≡ i + d
+    → slice_get servers i ≡ Some server
+    → slice_get servers j ≡ Some later
+    → IsPrefix later.log server.log
+descends servers chain zero i j server later is at at' =
     let same : server ≡ later = same_Some server later (sym at ∙ subst (λ k. slice_get servers k ≡ Some later) (omega arith) at') in
-    subst (λ (s : Server). IsFrontOf s.log server.log) same (IsFrontOf-refl server.log)
-descends n servers rise count ids (suc d) i j server later is at at' =
-    let lt : j < length servers = slice_get_within servers j later at' in
+    subst (λ (s : Server). IsPrefix s.log server.log) same (IsPrefix-refl server.log)
+descends servers chain (suc d) i j server later is at at' =
+    let n = length servers in
+    let lt : j < n = slice_get_within servers j later at' in
     let between = get_or servers (i + d) server in
     let there : slice_get servers (i + d) ≡ Some between = slice_get-get_or servers (i + d) server (omega arith) in
-    let before_id : between.id ≡ server_id (i + d + 1) = same_server between.id (server_id (i + d + 1)) (ids (i + d) between there) in
-    let number = ids j later at' in
+    let before_id : between.id ≡ server_id (i + d + 1) =
+    same_server between.id (server_id (i + d + 1)) (chain.numbered (i + d) between there) in
+    let number = chain.numbered j later at' in
     let later_id : later.id ≡ server_id (i + d + 2) = same_server later.id (server_id (i + d + 2)) (omega arith) in
-    let follows : prev_of (first_view n) later.id ≡ Some between.id = ap (prev_of (first_view n)) later_id ∙ prev_in_first_view n (i + d) (omega arith) ∙ ap (λ b. Some b) (sym before_id) in
-    IsFrontOf-trans later.log between.log server.log (rise 0 j (i + d) (first_view n) later between refl at' there follows) (descends n servers rise count ids d i (i + d) server between refl at there)
+    let follows : prev_of (first_view n) later.id ≡ Some between.id =
+    ap (prev_of (first_view n)) later_id ∙ prev_in_first_view n (i + d) (omega arith) ∙ ap (λ b. Some b) (sym before_id) in
+    let rises = chain_rises servers chain 0 j (i + d) (first_view n) later between refl at' there follows in
+    IsPrefix-trans later.log between.log server.log rises (descends servers chain d i (i + d) server between refl at there)
 
--- a history with more behind it is the longer one
-pub longer_front : (history log : List Entry) → IsFrontOf history log → longer history log ≡ log
-longer_front history log front = by_test (ltb (length history) (length log)) refl
-  where
-    by_test : (test : Bool) → ltb (length history) (length log) ≡ test → cond test log history ≡ log
-    by_test true is = refl
-    by_test false is =
-        let same : length log ≤ length history = ltb-false (length history) (length log) is in
-        sym (take_front history log front) ∙ take_all (length history) log same
+-- the history stands in each server's log
+abbrev pub MembersHold : List Server → List Entry → Type 0
+MembersHold servers history =
+    (i : ℕ) (server : Server) → slice_get servers i ≡ Some server → IsPrefix history server.log
 
--- and one that is no shorter stays
-pub longer_same : (history log : List Entry) → length log ≤ length history → longer history log ≡ history
-longer_same history log le = by_test (ltb (length history) (length log)) refl
-  where
-    by_test : (test : Bool) → ltb (length history) (length log) ≡ test → cond test log history ≡ history
-    by_test true is = absurd (omega (arith, ltb-true (length history) (length log) is))
-    by_test false is = refl
+-- where it stands in the log of the last server of a chain, it stands in each
+pub hold_all :
+    (servers : List Server) (history : List Entry)
+    → IsChain servers
+    → (last : Server)
+    → slice_get servers (length servers - 1) ≡ Some last
+    → IsPrefix history last.log
+    → MembersHold servers history
+hold_all servers history chain last there holds i server at =
+    let lt = slice_get_within servers i server at in
+    IsPrefix-trans history last.log server.log holds (descends servers chain (length servers - 1 - i) i (length servers - 1) server last (omega arith) at there)
 
--- what the server has acknowledged is not more than so much
-abbrev pub IsWithin : ℕ → Server → Type 0
-IsWithin n server = length (acknowledged server) ≤ n
-
-pub longest_same : (history : List Entry) (servers : List Server) → All (IsWithin (length history)) servers → longest history servers ≡ history
-longest_same history [] within = refl
-longest_same history (server ∷ servers) within =
-    let same : longer history (acknowledged server) ≡ history = longer_same history (acknowledged server) (All-head (IsWithin (length history)) server servers within) in
-    ap (λ h. longest h servers) same ∙ longest_same history servers (All-tail (IsWithin (length history)) server servers within)
-
-longer_length : (history log : List Entry) → length history ≤ length (longer history log)
-longer_length history log = by_test (ltb (length history) (length log)) refl
-  where
-    by_test : (test : Bool) → ltb (length history) (length log) ≡ test → length history ≤ length (cond test log history)
-    by_test true is = omega (arith, ltb-true (length history) (length log) is)
-    by_test false is = omega arith
-
--- where one server goes on, the history is at most what this one has acknowledged
-pub longest_set : (history : List Entry) (servers : List Server) (i : ℕ) (after : Server) → i < length servers → All (IsWithin (length history)) servers → longest history (slice_set servers i after) ≡ longer history (acknowledged after)
-longest_set history [] i after lt within = absurd (omega arith)
-longest_set history (server ∷ servers) zero after lt within =
-    let now = longer history (acknowledged after) in
-    longest_same now servers (All-weaker (IsWithin (length history)) (IsWithin (length now)) (λ s le. omega (arith, longer_length history (acknowledged after))) servers (All-tail (IsWithin (length history)) server servers within))
-longest_set history (server ∷ servers) (suc i) after lt within =
-    let same : longer history (acknowledged server) ≡ history = longer_same history (acknowledged server) (All-head (IsWithin (length history)) server servers within) in
-    ap (λ h. longest h (slice_set servers i after)) same ∙ longest_set history servers i after (omega arith) (All-tail (IsWithin (length history)) server servers within)
+-- members hold the history, in every sound world
+pub members_hold : (world : World) → IsSound world → MembersHold world.servers world.history
+members_hold world sound i server at =
+    let n = length world.servers in
+    let some = sound.some in
+    let last = get_or world.servers (n - 1) server in
+    let there : slice_get world.servers (n - 1) ≡ Some last = slice_get-get_or world.servers (n - 1) server (omega arith) in
+    let holds : LastHolds (first_view n ∷ []) world.servers world.history =
+    subst (λ views. LastHolds views world.servers world.history) sound.views sound.last_holds in
+    hold_all world.servers world.history (chain_of world sound) last there (holds (first_view n) (server_id n) last refl (last_of_members n (omega arith)) there) i server at

@@ -1,7 +1,7 @@
 -- What a client is told of the pairs of its query.
-use Rattle.std.proofs.Common.{◌≡◌, ◌≢◌, ℕ, ◌≤◌, Bool, true, false, cond, ◌&&◌, eqb, List, [], ◌∷◌, length, take, refl, sym, ap, ◌∙◌, arith}
-use Rattle.std.specs.Prelude.{max, Some, slice_get, All}
-use Rattle.std.proofs.lemmas.Bool.{cond-true, cond-false, eq-eqb, ne_eqb, eqb-true, and_parts}
+use Rattle.std.proofs.Common.{◌≡◌, ℕ, ◌≤◌, Bool, true, false, cond, ◌&&◌, eqb, List, [], ◌∷◌, length, take, refl, sym, ap, arith}
+use Rattle.std.specs.Prelude.{Some, slice_get, All}
+use Rattle.std.proofs.lemmas.Bool.{eqb-true, and_parts}
 use Rattle.std.proofs.lemmas.List.{length-take-le}
 use Rattle.std.proofs.lemmas.List.Elements.{All-nil, All-cons}
 use Rattle.kr_order.specs.declared.ids.ClientId.{ClientId}
@@ -11,62 +11,33 @@ use Rattle.kr_order.specs.declared.answer.Answer.TheVariants.{Before, After, Sam
 use Rattle.kr_order.specs.declared.answer.Teller.{Teller}
 use Rattle.kr_order.specs.declared.answer.ToldPart.{ToldPart}
 use Rattle.kr_order.specs.declared.history.Entry.{Entry}
-use Rattle.kr_order.specs.Front.{IsFrontOf}
+use Rattle.kr_order.specs.Prefix.{IsPrefix}
 use Rattle.kr_order.specs.Order.{reach}
-use Rattle.kr_order.specs.Pairs.{pairs_of}
+use Rattle.kr_order.specs.Pairs.{pairs_of, IsBefore}
 use Rattle.kr_order.specs.References.{IsLive}
 use Rattle.kr_order.specs.Agreed.{is_live, both_live, agreed_of}
-use Rattle.kr_order.specs.Answer.{answer_to}
-use Rattle.kr_order.proofs.FrontLemmas.{IsFrontOf-trans, IsFrontOf-take, shorter_front}
+use Rattle.kr_order.specs.Answer.{answer_to, answers_after}
+use Rattle.kr_order.proofs.PrefixLemmas.{IsPrefix-trans, IsPrefix-take, shorter_front}
 use Rattle.kr_order.proofs.OrderLemmas.{never_back}
 use Rattle.kr_order.proofs.HistoryLemmas.{is_live-true}
 use Rattle.kr_order.proofs.PairsLemmas.{order_grows, order_acyclic, answer_to-before, answer_to-after}
-use Rattle.kr_protocol.specs.Server.{answers_after}
 use Rattle.kr_protocol.specs.Client.{parts_of}
 use Rattle.kr_world.specs.Step.{Part, parts_to}
 use Rattle.kr_world.specs.Run.{Turn}
-use Rattle.kr_world.specs.Lawful.{IsBefore, StaysBefore, KeepsBefore, IsCurrent, IsSameLive, IsPartTrue, greatest_entry, seen_by, history_after}
+use Rattle.kr_world.specs.Lawful.{StaysBefore, KeepsBefore, IsCurrent, IsSameLive, IsPartTrue, seen_by, history_after}
 use Rattle.kr_world.specs.Facts.{IsToldPart}
 
--- the parts of one query are told of one entry, so none is of a later one
-entry_bound : (caller id : ClientId) (q n : ℕ) (by : Teller) (pairs : List (EventId × EventId)) (answers : List Answer) → greatest_entry caller (parts_to id (parts_of q n by pairs answers)) ≤ n
-entry_bound caller id q n by [] answers = omega arith
-entry_bound caller id q n by (pair ∷ pairs) [] = omega arith
-entry_bound caller id q n by (pair ∷ pairs) (answer ∷ answers) = by_test (eqb id.0 caller.0) (entry_bound caller id q n by pairs answers)
-  where
-    by_test : (test : Bool) → greatest_entry caller (parts_to id (parts_of q n by pairs answers)) ≤ n → cond test (max n (greatest_entry caller (parts_to id (parts_of q n by pairs answers)))) (greatest_entry caller (parts_to id (parts_of q n by pairs answers))) ≤ n
-    by_test true known = omega arith
-    by_test false known = known
-
--- and the first is of this one
-entry_of_first : (caller id : ClientId) (q n : ℕ) (by : Teller) (pair : EventId × EventId) (pairs : List (EventId × EventId)) (answer : Answer) (answers : List Answer) → id.0 ≡ caller.0 → greatest_entry caller (parts_to id (parts_of q n by (pair ∷ pairs) (answer ∷ answers))) ≡ n
-entry_of_first caller id q n by pair pairs answer answers same =
-    let rest = greatest_entry caller (parts_to id (parts_of q n by pairs answers)) in
-    let bound : rest ≤ n = entry_bound caller id q n by pairs answers in
-    cond-true (eqb id.0 caller.0) (max n rest) rest (eq-eqb id.0 caller.0 same) ∙ omega arith
-
--- the greatest entry of the answers to a query
-pub entry_is : (caller id : ClientId) (q n : ℕ) (by : Teller) (history : List Entry) (pairs : List (EventId × EventId)) → 1 ≤ length pairs → id.0 ≡ caller.0 → greatest_entry caller (parts_to id (parts_of q n by pairs (answers_after history pairs))) ≡ n
-entry_is caller id q n by history [] some same = absurd (omega arith)
-entry_is caller id q n by history (pair ∷ pairs) some same =
-    entry_of_first caller id q n by pair pairs (answer_to history pair.0.0 pair.1.0) (answers_after history pairs) same
-
--- no other client is told of an entry
-pub entry_other : (caller id : ClientId) (q n : ℕ) (by : Teller) (pairs : List (EventId × EventId)) (answers : List Answer) → id.0 ≢ caller.0 → greatest_entry caller (parts_to id (parts_of q n by pairs answers)) ≡ 0
-entry_other caller id q n by [] answers other = refl
-entry_other caller id q n by (pair ∷ pairs) [] other = refl
-entry_other caller id q n by (pair ∷ pairs) (answer ∷ answers) other =
-    let rest = greatest_entry caller (parts_to id (parts_of q n by pairs answers)) in
-    cond-false (eqb id.0 caller.0) (max n rest) rest (ne_eqb id.0 caller.0 other) ∙ entry_other caller id q n by pairs answers other
-
 -- each part has the answer to its pair
-pub parts_told : (history : List Entry) (seen : ClientId → ℕ) (id : ClientId) (q n : ℕ) (by : Teller) (pairs : List (EventId × EventId)) → n ≤ length history → seen id ≤ n → All (λ part. IsToldPart history (seen part.client) part.part) (parts_to id (parts_of q n by pairs (answers_after (take n history) pairs)))
+pub parts_told : (history : List Entry) (seen : ClientId → ℕ) (id : ClientId) (q n : ℕ) (by : Teller)
+    (pairs : List (EventId × EventId)) → n ≤ length history → seen id ≤ n
+    → All (λ part. IsToldPart history (seen part.client) part.part) (parts_to id (parts_of q n by pairs (answers_after (take n history) pairs)))
 parts_told history seen id q n by [] within current = All-nil (λ part. IsToldPart history (seen part.client) part.part)
 parts_told history seen id q n by (pair ∷ pairs) within current =
     All-cons (λ part. IsToldPart history (seen part.client) part.part) _ _ (record { within = within; answer = refl; current = current }) (parts_told history seen id q n by pairs within current)
 
 -- what is answered of the same event
-only_same : (live same ab ba : Bool) → cond live (cond same Same (cond ab Before (cond ba After Concurrent))) Unknown ≡ Same → (live && same) ≡ true
+only_same : (live same ab ba : Bool)
+    → cond live (cond same Same (cond ab Before (cond ba After Concurrent))) Unknown ≡ Same → (live && same) ≡ true
 only_same true true ab ba is = refl
 only_same true false true ba is = cc
 only_same true false false true is = cc
@@ -74,7 +45,8 @@ only_same true false false false is = cc
 only_same false same ab ba is = cc
 
 -- a server that has all entries is sure
-never_unsure : (live same ab ba : Bool) → cond live (cond same Same (cond ab Before (cond ba After Concurrent))) Unknown ≡ Unsure → ⊥
+never_unsure : (live same ab ba : Bool)
+    → cond live (cond same Same (cond ab Before (cond ba After Concurrent))) Unknown ≡ Unsure → ⊥
 never_unsure true true ab ba is = cc
 never_unsure true false true ba is = cc
 never_unsure true false false true is = cc
@@ -84,39 +56,45 @@ never_unsure false same ab ba is = cc
 same_event : (a b : EventId) → a.0 ≡ b.0 → a ≡ b
 same_event a b is = let id : ℕ → EventId = λ n. record { 0 = n } in ap id is
 
-answer_to-same : (history : List Entry) (a b : EventId) → answer_to history a.0 b.0 ≡ Same → (a ≡ b) × IsLive history a.0
+answer_to-same : (history : List Entry) (a b : EventId) → answer_to history a.0 b.0 ≡ Same
+    → (a ≡ b) × IsLive history a.0
 answer_to-same history a b is =
     let agreed = agreed_of history in
     let both = and_parts (both_live agreed a.0 b.0) (eqb a.0 b.0) (only_same (both_live agreed a.0 b.0) (eqb a.0 b.0) (reach (pairs_of history) a.0 b.0) (reach (pairs_of history) b.0 a.0) is) in
     let live = and_parts (is_live agreed a.0) (is_live agreed b.0) both.0 in
     (same_event a b (eqb-true a.0 b.0 both.1), (is_live-true history a.0).0 live.0)
 
-pub answer_to-sure : (history : List Entry) (a b : ℕ) → answer_to history a b ≡ Unsure → ⊥
+answer_to-sure : (history : List Entry) (a b : ℕ) → answer_to history a b ≡ Unsure → ⊥
 answer_to-sure history a b is =
     never_unsure (both_live (agreed_of history) a b) (eqb a b) (reach (pairs_of history) a b) (reach (pairs_of history) b a) is
 
 -- a path after an entry is there after each later entry, and never the other way round
-path_stays : (history longer : List Entry) (a b : EventId) → reach (pairs_of history) a.0 b.0 ≡ true → IsFrontOf history longer → IsBefore longer a b
+path_stays : (history longer : List Entry) (a b : EventId) → reach (pairs_of history) a.0 b.0 ≡ true
+    → IsPrefix history longer → IsBefore longer a.0 b.0
 path_stays history longer a b path front =
     let now = (order_grows history longer front).before a.0 b.0 path in
-    record { before = now; not_after = never_back (pairs_of longer) a.0 b.0 (order_acyclic longer) now }
+    record { before = now; never_back = never_back (pairs_of longer) a.0 b.0 (order_acyclic longer) now }
 
 -- the history after an entry is a front of that after a later one
-front_stays : (history longer : List Entry) (n m : ℕ) → IsFrontOf history longer → n ≤ length history → n ≤ m → m ≤ length longer → IsFrontOf (take n history) (take m longer)
+front_stays : (history longer : List Entry) (n m : ℕ) → IsPrefix history longer → n ≤ length history → n ≤ m
+    → m ≤ length longer → IsPrefix (take n history) (take m longer)
 front_stays history longer n m front within le within_later =
     let short : length (take n history) ≡ n = length-take-le n history within in
     let long : length (take m longer) ≡ m = length-take-le m longer within_later in
-    shorter_front (take n history) (take m longer) longer (IsFrontOf-trans (take n history) history longer (IsFrontOf-take n history) front) (IsFrontOf-take m longer) (omega arith)
+    shorter_front (take n history) (take m longer) longer (IsPrefix-trans (take n history) history longer (IsPrefix-take n history) front) (IsPrefix-take m longer) (omega arith)
 
 -- the histories after later steps begin with this one
 pub record IsPassedOn (run : List Turn) (i : ℕ) (history : List Entry) : Type 0 where
-  pub grows : (j : ℕ) (later : Turn) → i ≤ j → slice_get run j ≡ Some later → IsFrontOf history (history_after later)
+  pub grows : (j : ℕ) (later : Turn) → i ≤ j → slice_get run j ≡ Some later → IsPrefix history (history_after later)
 
-stays_before : (run : List Turn) (i : ℕ) (history : List Entry) (n : ℕ) (a b : EventId) → IsPassedOn run i history → n ≤ length history → reach (pairs_of (take n history)) a.0 b.0 ≡ true → StaysBefore run i n a b
+stays_before : (run : List Turn) (i : ℕ) (history : List Entry) (n : ℕ) (a b : EventId) → IsPassedOn run i history
+    → n ≤ length history → reach (pairs_of (take n history)) a.0 b.0 ≡ true → StaysBefore run i n a b
 stays_before run i history n a b on within path j later le is m more within_later =
     path_stays (take n history) (take m (history_after later)) a b path (front_stays history (history_after later) n m (on.grows j later le is) within more within_later)
 
-keeps_before : (run : List Turn) (i : ℕ) (history : List Entry) (part : ToldPart) (answer : Answer) → IsPassedOn run i history → part.entry ≤ length history → answer_to (take part.entry history) part.a.0 part.b.0 ≡ answer → KeepsBefore run i part answer
+keeps_before : (run : List Turn) (i : ℕ) (history : List Entry) (part : ToldPart) (answer : Answer)
+    → IsPassedOn run i history → part.entry ≤ length history
+    → answer_to (take part.entry history) part.a.0 part.b.0 ≡ answer → KeepsBefore run i part answer
 keeps_before run i history part Before on within is =
     stays_before run i history part.entry part.a part.b on within (answer_to-before (take part.entry history) part.a.0 part.b.0 is)
 keeps_before run i history part After on within is =
@@ -126,7 +104,8 @@ keeps_before run i history part Concurrent on within is = tt
 keeps_before run i history part Unknown on within is = tt
 keeps_before run i history part Unsure on within is = tt
 
-is_current : (history : List Entry) (seen : ℕ) (part : ToldPart) (answer : Answer) → seen ≤ part.entry → answer_to (take part.entry history) part.a.0 part.b.0 ≡ answer → IsCurrent seen part answer
+is_current : (history : List Entry) (seen : ℕ) (part : ToldPart) (answer : Answer) → seen ≤ part.entry
+    → answer_to (take part.entry history) part.a.0 part.b.0 ≡ answer → IsCurrent seen part answer
 is_current history seen part Before le is = tt
 is_current history seen part After le is = tt
 is_current history seen part Same le is = tt
@@ -134,7 +113,8 @@ is_current history seen part Concurrent le is = le
 is_current history seen part Unknown le is = le
 is_current history seen part Unsure le is = answer_to-sure (take part.entry history) part.a.0 part.b.0 is
 
-is_same_live : (history : List Entry) (part : ToldPart) (answer : Answer) → answer_to (take part.entry history) part.a.0 part.b.0 ≡ answer → IsSameLive history part answer
+is_same_live : (history : List Entry) (part : ToldPart) (answer : Answer)
+    → answer_to (take part.entry history) part.a.0 part.b.0 ≡ answer → IsSameLive history part answer
 is_same_live history part Before is = tt
 is_same_live history part After is = tt
 is_same_live history part Same is = answer_to-same (take part.entry history) part.a part.b is
@@ -143,13 +123,15 @@ is_same_live history part Unknown is = tt
 is_same_live history part Unsure is = tt
 
 -- a part that is told is true
-pub part_true : (run : List Turn) (i : ℕ) (history : List Entry) (part : Part) → IsPassedOn run i history → IsToldPart history (seen_by part.client (take i run)) part.part → IsPartTrue run i history part
-part_true run i history part on told =
+pub part_true : (run : List Turn) (i : ℕ) (turn : Turn) (part : Part) → IsPassedOn run i (history_after turn)
+    → IsToldPart (history_after turn) (seen_by turn part.client) part.part → IsPartTrue run i turn part
+part_true run i turn part on told =
+    let history = history_after turn in
     let answer = part.part.answer in
     record {
       within = told.within;
       answer = told.answer;
       before_holds = keeps_before run i history part.part answer on told.within (sym told.answer);
-      current = is_current history (seen_by part.client (take i run)) part.part answer told.current (sym told.answer);
+      current = is_current history (seen_by turn part.client) part.part answer told.current (sym told.answer);
       same_is_live = is_same_live history part.part answer (sym told.answer);
     }

@@ -5,24 +5,24 @@ use Rattle.kr_order.specs.declared.ids.EventId.{EventId}
 use Rattle.kr_order.specs.declared.answer.Query.{Query}
 use Rattle.kr_order.specs.declared.answer.Told.{Told}
 use Rattle.kr_order.specs.declared.answer.ToldPart.{ToldPart}
-use Rattle.kr_order.specs.Answer.{answer_to}
+use Rattle.kr_order.specs.Answer.{answer_to, answers_after}
 use Rattle.kr_order.specs.declared.history.Command.{Command}
 use Rattle.kr_order.specs.declared.history.Entry.{Entry}
 use Rattle.kr_order.specs.declared.history.Placed.{Placed}
 use Rattle.kr_order.specs.declared.message.Node as nodes
 use Rattle.kr_order.specs.declared.message.Node.TheVariants.{Manager, Client as AtClient, Server as AtServer}
 use Rattle.kr_order.specs.declared.message.Message.{Message}
-use Rattle.kr_order.specs.declared.message.Message.TheVariants.{Request, Append, Ack, Replied, Ask, Answered}
+use Rattle.kr_order.specs.declared.message.Message.TheVariants.{Request, Replied, Ask, Answered}
 use Rattle.kr_order.specs.declared.message.Packet.{Packet}
 use Rattle.kr_order.specs.Reply.{reply_to}
-use Rattle.kr_protocol.specs.Server.{Server, answers_after}
+use Rattle.kr_protocol.specs.Server.{Server}
 use Rattle.kr_protocol.specs.Client.{Client}
 use Rattle.script_lang.specs.declared.script.Event.{Event}
-use Rattle.script_lang.specs.declared.script.Event.TheVariants.{Call, Query as ToQuery, Deliver, Work}
+use Rattle.script_lang.specs.declared.script.Event.TheVariants.{Query as ToQuery}
 use Rattle.kr_world.specs.declared.refusal.Refusal.{Refusal}
 use Rattle.kr_world.specs.World.{World}
 use Rattle.kr_world.specs.Run.{Turn}
-use Rattle.kr_world.specs.Lawful.{begun_by, entries_of, seen_by, IsNumbered}
+use Rattle.kr_world.specs.Lawful.{begun_by, entries_of, IsNumbered}
 
 -- the command of this number among those that the client began is this one
 pub record HasBegun (past : List Turn) (caller : ClientId) (seq : ℕ) (command : Command) : Type 0 where
@@ -33,10 +33,7 @@ pub record HasBegun (past : List Turn) (caller : ClientId) (seq : ℕ) (command 
 -- the pairs of the query that the client begins by this event, if it does
 abbrev pub asks_by : ClientId → Event → Option Refusal → List (List (EventId × EventId))
 asks_by client (ToQuery caller server pairs) None = if caller.0 == client.0 then pairs ∷ [] else []
-asks_by client (ToQuery caller server pairs) (Some why) = []
-asks_by client (Call caller command) refused = []
-asks_by client (Deliver k) refused = []
-asks_by client (Work server workers) refused = []
+asks_by client event refused = []
 
 -- the pairs of the queries that the client began in these steps, in order
 abbrev pub asked_by : ClientId → List Turn → List (List (EventId × EventId))
@@ -111,11 +108,10 @@ IsTrueAnswer past history (AtServer server) q told = Unit {0}
 
 abbrev pub IsTrueMessage : List Turn → List Entry → nodes.Node → nodes.Node → Message → Type 0
 IsTrueMessage past history from to (Request seq command) = IsTrueRequest past from seq command
-IsTrueMessage past history from to (Append first entries) = Unit {0}
-IsTrueMessage past history from to (Ack done len) = Unit {0}
 IsTrueMessage past history from to (Replied seq placed) = IsTrueReply history to seq placed
 IsTrueMessage past history from to (Ask q part pairs) = IsTrueAsk past from q pairs
 IsTrueMessage past history from to (Answered q part told) = IsTrueAnswer past history to q told
+IsTrueMessage past history from to other = Unit {0}
 
 -- a packet is true, whenever it was sent
 abbrev pub IsTruePacket : List Turn → List Entry → Packet → Type 0
@@ -139,14 +135,15 @@ pub record IsAsking (past : List Turn) (bag : List Packet) (client : Client) (pa
   pub asked : HasAsked past client.id client.q pairs
   pub fresh : All (IsFresh client.id client.q client.seen) bag
 
--- the client at an index has seen nothing but what it was told
+-- the client at an index has seen only history
 pub record IsTrueClient (past : List Turn) (history : List Entry) (bag : List Packet) (i : ℕ) (client : Client) : Type 0 where
   pub id : client.id.0 ≡ i + 1
   -- it counts what it began
   pub seq : client.seq ≡ length (begun_by client.id past)
+  -- its open command is the last that it began
+  pub command : (command : Command) → client.call ≡ Some command → HasBegun past client.id client.seq command
   -- while it has no open call, all that it began is in the history
   pub idle : client.call ≡ None → length (entries_of client.id history) ≡ client.seq
-  pub seen : client.seen ≡ seen_by client.id past
   pub within : client.seen ≤ length history
   -- the entry of its open call is not in what it has seen
   pub old : length (entries_of client.id (take client.seen history)) + open_calls client.call ≤ client.seq

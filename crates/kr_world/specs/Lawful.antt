@@ -1,21 +1,23 @@
 -- The laws of a run, stated over its events, what was told, and the histories after its steps.
-use Rattle.std.specs.Prelude.{true, false, length, ◌≡◌, ℕ, ◌+◌, ◌-◌, ◌<◌, ◌≤◌, List, [], ◌∷◌, ◌++◌, ◌==◌, max, filter, take, if◌then◌else◌, slice_get, All, Option, None, Some}
+use Rattle.std.specs.Prelude.{length, ◌≡◌, ℕ, ◌+◌, ◌-◌, ◌<◌, ◌≤◌, List, [], ◌∷◌, ◌++◌, ◌==◌, filter, take, if◌then◌else◌, slice_get, All, Option, None, Some}
 use Rattle.kr_order.specs.declared.ids.ClientId.{ClientId}
 use Rattle.kr_order.specs.declared.history.Command.{Command}
 use Rattle.kr_order.specs.declared.history.Entry.{Entry}
 use Rattle.kr_order.specs.Reply.{reply_to}
 use Rattle.script_lang.specs.declared.script.Event.{Event}
-use Rattle.script_lang.specs.declared.script.Event.TheVariants.{Call, Query, Deliver, Work}
+use Rattle.script_lang.specs.declared.script.Event.TheVariants.{Call}
 use Rattle.kr_world.specs.declared.refusal.Refusal.{Refusal}
 use Rattle.kr_order.specs.declared.ids.EventId.{EventId}
 use Rattle.kr_order.specs.declared.answer.Answer.{Answer}
 use Rattle.kr_order.specs.declared.answer.Answer.TheVariants as answers
 use Rattle.kr_order.specs.declared.answer.ToldPart.{ToldPart}
-use Rattle.kr_order.specs.Front.{IsFrontOf}
-use Rattle.kr_order.specs.Order.{reach, IsAcyclic}
-use Rattle.kr_order.specs.Pairs.{pairs_of}
+use Rattle.kr_order.specs.Prefix.{IsPrefix}
+use Rattle.kr_order.specs.Order.{IsAcyclic}
+use Rattle.kr_order.specs.Pairs.{pairs_of, IsBefore}
 use Rattle.kr_order.specs.References.{IsLive}
 use Rattle.kr_order.specs.Answer.{answer_to}
+use Rattle.kr_protocol.specs.Client.{Client}
+use Rattle.kr_world.specs.World.{client_at}
 use Rattle.kr_world.specs.Step.{Told, Part}
 use Rattle.script_lang.specs.declared.script.Script.{Script}
 use Rattle.script_lang.specs.Script.{IsScript}
@@ -28,10 +30,7 @@ history_after turn = turn.outcome.after.history
 -- the command that the client begins by this event, if it does
 abbrev pub begins_by : ClientId → Event → Option Refusal → List Command
 begins_by client (Call caller command) None = if caller.0 == client.0 then command ∷ [] else []
-begins_by client (Call caller command) (Some why) = []
-begins_by client (Query caller server pairs) refused = []
-begins_by client (Deliver k) refused = []
-begins_by client (Work server workers) refused = []
+begins_by client event refused = []
 
 -- the commands that the client began in these steps, in order
 abbrev pub begun_by : ClientId → List Turn → List Command
@@ -49,29 +48,17 @@ IsNumbered begun entries =
 
 -- One place: histories only grow, and each client's entries are the commands that it began, each once, in order.
 pub record HasOnePlace (run : List Turn) : Type 0 where
-  pub grows : (i j : ℕ) (earlier later : Turn) → i ≤ j → slice_get run i ≡ Some earlier → slice_get run j ≡ Some later → IsFrontOf (history_after earlier) (history_after later)
+  pub grows : (i j : ℕ) (earlier later : Turn) → i ≤ j → slice_get run i ≡ Some earlier → slice_get run j ≡ Some later → IsPrefix (history_after earlier) (history_after later)
   pub numbered : (i : ℕ) (turn : Turn) → slice_get run i ≡ Some turn → (client : ClientId) → IsNumbered (begun_by client (take (i + 1) run)) (entries_of client (history_after turn))
 
--- the greatest place that the client is told by these
-abbrev pub greatest_place : ClientId → List Told → ℕ
-greatest_place client [] = 0
-greatest_place client (told ∷ more) =
-    if told.client.0 == client.0 then max told.reply.placed.place (greatest_place client more) else greatest_place client more
+-- the greatest place or entry that a client has seen
+abbrev pub seen_of : Option Client → ℕ
+seen_of None = 0
+seen_of (Some client) = client.seen
 
--- the greatest entry that the client is told of by these
-abbrev pub greatest_entry : ClientId → List Part → ℕ
-greatest_entry client [] = 0
-greatest_entry client (part ∷ more) =
-    if part.client.0 == client.0 then max part.part.entry (greatest_entry client more) else greatest_entry client more
-
--- the greatest place or entry that the client was told in a step
-abbrev pub seen_in : ClientId → Turn → ℕ
-seen_in client turn = max (greatest_place client turn.outcome.told) (greatest_entry client turn.outcome.parts)
-
--- the greatest place or entry that the client was told in these steps
-abbrev pub seen_by : ClientId → List Turn → ℕ
-seen_by client [] = 0
-seen_by client (turn ∷ turns) = max (seen_in client turn) (seen_by client turns)
+-- what the client had seen before the step
+abbrev pub seen_by : Turn → ClientId → ℕ
+seen_by turn client = seen_of (client_at turn.before client)
 
 -- a reply that was told is its command's, at its place in the history, which is past all that its client had seen
 pub record IsToldTruly (history : List Entry) (seen : ℕ) (told : Told) : Type 0 where
@@ -82,25 +69,20 @@ pub record IsToldTruly (history : List Entry) (seen : ℕ) (told : Told) : Type 
   pub seq : entry.seq ≡ told.reply.seq
   pub reply : told.reply.placed.reply ≡ reply_to (take (told.reply.placed.place - 1) history) entry.command
 
--- Told reply: what a step tells a client is true, and newer than all that it was told before.
+-- Told reply: what a step tells a client is true, and newer than all that it had seen.
 abbrev pub HasTrueReplies : List Turn → Type 0
 HasTrueReplies run =
-    (i : ℕ) (turn : Turn) → slice_get run i ≡ Some turn → All (λ told. IsToldTruly (history_after turn) (seen_by told.client (take i run)) told) turn.outcome.told
+    (i : ℕ) (turn : Turn) → slice_get run i ≡ Some turn → All (λ told. IsToldTruly (history_after turn) (seen_by turn told.client) told) turn.outcome.told
 
 -- Acyclic: after every entry of every history no event is before itself.
 abbrev pub StaysAcyclic : List Turn → Type 0
 StaysAcyclic run =
     (i : ℕ) (turn : Turn) → slice_get run i ≡ Some turn → (n : ℕ) → IsAcyclic (pairs_of (take n (history_after turn)))
 
--- a is before b by the history's order, and not the other way round
-pub record IsBefore (history : List Entry) (a b : EventId) : Type 0 where
-  pub before : reach (pairs_of history) a.0 b.0 ≡ true
-  pub not_after : reach (pairs_of history) b.0 a.0 ≡ false
-
 -- from this entry on a is before b, in this history and in every later one of the run
 abbrev pub StaysBefore : List Turn → ℕ → ℕ → EventId → EventId → Type 0
 StaysBefore run i n a b =
-    (j : ℕ) (later : Turn) → i ≤ j → slice_get run j ≡ Some later → (m : ℕ) → n ≤ m → m ≤ length (history_after later) → IsBefore (take m (history_after later)) a b
+    (j : ℕ) (later : Turn) → i ≤ j → slice_get run j ≡ Some later → (m : ℕ) → n ≤ m → m ≤ length (history_after later) → IsBefore (take m (history_after later)) a.0 b.0
 
 -- Before holds: a told Before, and a told After the other way round, holds from its entry on and is never contradicted.
 abbrev pub KeepsBefore : List Turn → ℕ → ToldPart → Answer → Type 0
@@ -130,17 +112,17 @@ IsSameLive history part answers.Unknown = Unit {0}
 IsSameLive history part answers.Unsure = Unit {0}
 
 -- what a step tells a client of a pair is true after the entry that it names
-pub record IsPartTrue (run : List Turn) (i : ℕ) (history : List Entry) (part : Part) : Type 0 where
-  pub within : part.part.entry ≤ length history
-  pub answer : part.part.answer ≡ answer_to (take part.part.entry history) part.part.a.0 part.part.b.0
+pub record IsPartTrue (run : List Turn) (i : ℕ) (turn : Turn) (part : Part) : Type 0 where
+  pub within : part.part.entry ≤ length (history_after turn)
+  pub answer : part.part.answer ≡ answer_to (take part.part.entry (history_after turn)) part.part.a.0 part.part.b.0
   pub before_holds : KeepsBefore run i part.part part.part.answer
-  pub current : IsCurrent (seen_by part.client (take i run)) part.part part.part.answer
-  pub same_is_live : IsSameLive history part.part part.part.answer
+  pub current : IsCurrent (seen_by turn part.client) part.part part.part.answer
+  pub same_is_live : IsSameLive (history_after turn) part.part part.part.answer
 
 -- every told part is true
 abbrev pub HasTrueParts : List Turn → Type 0
 HasTrueParts run =
-    (i : ℕ) (turn : Turn) → slice_get run i ≡ Some turn → All (IsPartTrue run i (history_after turn)) turn.outcome.parts
+    (i : ℕ) (turn : Turn) → slice_get run i ≡ Some turn → All (IsPartTrue run i turn) turn.outcome.parts
 
 -- the laws of a run
 pub record IsLawful (run : List Turn) : Type 0 where

@@ -4,6 +4,9 @@ pub mod Step
 pub mod Lines
 pub mod Run
 pub mod Rows
+pub mod ChainRows
+pub mod HeldRows
+pub mod QueryRows
 pub mod Sound
 pub mod Lawful
 pub mod Facts

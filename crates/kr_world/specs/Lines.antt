@@ -4,10 +4,11 @@ use Rattle.std.specs.Fmt.{decimal}
 use Rattle.kr_order.specs.declared.history.Entry.{Entry}
 use Rattle.kr_order.specs.declared.history.DoneEntry.{DoneEntry}
 use Rattle.kr_order.specs.declared.message.Packet.{Packet}
-use Rattle.kr_order.specs.Text.{client_text, node_text, reply_text, part_text, done_text, message_text}
+use Rattle.kr_order.specs.Text.{client_text, server_text, node_text, reply_text, part_text, done_text, message_text}
 use Rattle.kr_order.specs.Done.{done_of}
 use Rattle.script_lang.specs.Line.{line}
 use Rattle.kr_world.specs.declared.refusal.Refusal.{Refusal}
+use Rattle.kr_world.specs.declared.shown.Shown.{Shown}
 use Rattle.kr_world.specs.Refusal.{refusal_word}
 use Rattle.kr_world.specs.World.{World}
 use Rattle.kr_world.specs.Step.{Told, Part, Outcome}
@@ -31,6 +32,12 @@ abbrev pub part_lines : List Part → List ℕ
 part_lines [] = []
 part_lines (part ∷ more) = part_line part ++ part_lines more
 
+-- what a server has: its view, its log, what is held of its order, and the queries that wait
+abbrev pub shown_line : Option Shown → List ℕ
+shown_line None = []
+shown_line (Some shown) =
+    line (codes "show " ++ server_text shown.server ++ codes " view " ++ decimal shown.view ++ codes " log " ++ decimal shown.log ++ codes " done " ++ decimal shown.done ++ codes " held " ++ decimal shown.held ++ codes " pairs " ++ decimal shown.pairs ++ codes " waiting " ++ decimal shown.waiting)
+
 abbrev pub refused_line : Option Refusal → List ℕ
 refused_line None = []
 refused_line (Some why) = line (codes "refused " ++ refusal_word why)
@@ -44,10 +51,11 @@ abbrev pub packet_lines : ℕ → List Packet → List ℕ
 packet_lines sent [] = []
 packet_lines sent (packet ∷ more) = packet_line (sent + 1) packet ++ packet_lines (sent + 1) more
 
--- what is printed of a step: how far the history has grown, what was told, why it was refused, what was sent
+-- what is printed of a step: how far the history has grown, what was told, what was shown of a server, why it
+-- was refused, what was sent
 abbrev pub step_lines : World → Outcome → List ℕ
 step_lines before outcome =
-    grown_line (length before.history) (length outcome.after.history) ++ told_lines outcome.told ++ part_lines outcome.parts ++ refused_line outcome.refused ++ packet_lines (length before.bag) (drop (length before.bag) outcome.after.bag)
+    grown_line (length before.history) (length outcome.after.history) ++ told_lines outcome.told ++ part_lines outcome.parts ++ shown_line outcome.shown ++ refused_line outcome.refused ++ packet_lines (length before.bag) (drop (length before.bag) outcome.after.bag)
 
 abbrev pub done_lines : List DoneEntry → List ℕ
 done_lines [] = []

@@ -6,13 +6,13 @@ use Rattle.kr_order.specs.declared.history.Entry.{Entry}
 use Rattle.kr_order.specs.declared.message.Node as nodes
 use Rattle.kr_order.specs.declared.message.Node.TheVariants.{Manager, Client as OfClient, Server as OfServer}
 use Rattle.kr_order.specs.declared.message.Message.{Message}
-use Rattle.kr_order.specs.declared.message.Message.TheVariants.{Request, Append, Ack, Replied, Ask, Answered}
+use Rattle.kr_order.specs.declared.message.Message.TheVariants.{Append, Ack}
 use Rattle.kr_order.specs.declared.message.Packet.{Packet}
 use Rattle.kr_order.specs.declared.view.View.{View}
-use Rattle.kr_order.specs.Front.{IsFrontOf}
-use Rattle.kr_order.specs.View.{first_view, prev_of}
+use Rattle.kr_order.specs.Prefix.{IsPrefix}
+use Rattle.kr_order.specs.View.{first_view, in_chain, last_member}
 use Rattle.script_lang.specs.declared.script.Event.{Event}
-use Rattle.kr_protocol.specs.Server.{Server, most_entries, most_waiting, acknowledged, is_at_tail}
+use Rattle.kr_protocol.specs.Server.{Server, most_entries, most_waiting, acknowledged, is_at_tail, prev}
 use Rattle.kr_world.specs.World.{World, first_world}
 use Rattle.kr_world.specs.Step.{step, bag_limit}
 
@@ -20,18 +20,31 @@ use Rattle.kr_world.specs.Step.{step, bag_limit}
 abbrev pub most_packets : ℕ
 most_packets = bag_limit + most_waiting
 
--- the server at an index, in a world of so many servers and packets
-pub record IsSoundServer (history : List Entry) (count packets i : ℕ) (server : Server) : Type 0 where
+-- the view that a server has adopted is one of the manager's, and names the server
+pub record IsOwnView (views : List View) (server : Server) : Type 0 where
+  pub view : View
+  pub adopted : server.view ≡ Some view
+  pub listed : slice_get views (view.number - 1) ≡ Some view
+  pub named : in_chain view server.id ≡ true
+
+-- what stands in the server's log stands in that of its predecessor, by the view that it has adopted
+abbrev pub IsBelowPredecessor : List Server → Server → Type 0
+IsBelowPredecessor servers server =
+    (j : ℕ) (before : Server)
+    → slice_get servers j ≡ Some before
+    → prev server ≡ Some before.id
+    → IsPrefix server.log before.log
+
+-- the server at an index, among these servers and views, after so many packets
+pub record IsSoundServer (views : List View) (servers : List Server) (history : List Entry) (packets i : ℕ) (server : Server) : Type 0 where
   pub id : server.id.0 ≡ i + 1
-  -- it has adopted the first view
-  pub view : server.view ≡ Some (first_view count)
+  pub own_view : IsOwnView views server
   pub done : server.done ≤ length server.log
   pub fed : server.fed ≤ length server.log
+  pub below : IsBelowPredecessor servers server
   -- acknowledged is history
-  pub agreed : IsFrontOf (acknowledged server) history
-  -- the history stands in its log
-  pub holds : IsFrontOf history server.log
-  -- what the tail has in its log is acknowledged
+  pub agreed : IsPrefix (acknowledged server) history
+  -- a tail is full: what it has in its log is acknowledged
   pub full : is_at_tail server ≡ true → server.done ≡ length server.log
   pub waiting : length server.waiting ≤ most_waiting
   -- entries came with packets
@@ -65,33 +78,40 @@ IsSoundAck servers (OfClient client) done len = Unit {0}
 IsSoundAck servers (OfServer server) done len = HasSoMany servers server done len
 
 abbrev pub IsSoundMessage : List Server → nodes.Node → Message → Type 0
-IsSoundMessage servers from (Request seq command) = Unit {0}
 IsSoundMessage servers from (Append first entries) = IsSoundAppend servers from first entries
 IsSoundMessage servers from (Ack done len) = IsSoundAck servers from done len
-IsSoundMessage servers from (Replied seq placed) = Unit {0}
-IsSoundMessage servers from (Ask q part pairs) = Unit {0}
-IsSoundMessage servers from (Answered q part told) = Unit {0}
+IsSoundMessage servers from other = Unit {0}
 
 -- what a server says to another is true of its log, whenever it was sent
 abbrev pub IsSoundPacket : List Server → Packet → Type 0
 IsSoundPacket servers packet = IsSoundMessage servers packet.from packet.message
 
--- logs are prefixes up the chain: of two servers that follow each other in a view, the earlier has all that the later has
-abbrev pub LogsRise : List View → List Server → Type 0
-LogsRise views servers =
-    (k i j : ℕ) (view : View) (server before : Server) → slice_get views k ≡ Some view → slice_get servers i ≡ Some server → slice_get servers j ≡ Some before → prev_of view server.id ≡ Some before.id → IsFrontOf server.log before.log
+-- the last holds the history: it stands in the log of the last member of the manager's current view
+abbrev pub LastHolds : List View → List Server → List Entry → Type 0
+LastHolds views servers history =
+    (view : View) (id : ServerId) (server : Server)
+    → slice_get views (length views - 1) ≡ Some view
+    → last_member view ≡ Some id
+    → slice_get servers (id.0 - 1) ≡ Some server
+    → IsPrefix history server.log
 
 pub record IsSound (world : World) : Type 0 where
   -- the manager has made one view, of all servers
   pub views : world.views ≡ first_view (length world.servers) ∷ []
   pub some : 1 ≤ length world.servers
-  pub servers : (i : ℕ) (server : Server) → slice_get world.servers i ≡ Some server → IsSoundServer world.history (length world.servers) (length world.bag) i server
-  pub logs_rise : LogsRise world.views world.servers
+  pub servers :
+      (i : ℕ) (server : Server)
+      → slice_get world.servers i ≡ Some server
+      → IsSoundServer world.views world.servers world.history (length world.bag) i server
+  pub last_holds : LastHolds world.views world.servers world.history
   pub packets : All (IsSoundPacket world.servers) world.bag
   -- each command and each query had a packet of its own
   pub calls : All (λ client. client.seq ≤ length world.bag) world.clients
   pub queries : All (λ client. client.q ≤ length world.bag) world.clients
   pub bag : length world.bag ≤ most_packets
+  -- the marks stand beside the packets
+  pub lost : length world.lost ≡ length world.bag
+  pub delivered : length world.delivered ≡ length world.bag
 
 -- the first world is sound, and every step keeps a world so
 pub record WorldsAreSound : Type 0 where

@@ -1,5 +1,5 @@
 -- What an event does to the world: why it is refused, or else what it does.
-use Rattle.std.specs.Prelude.{ℕ, ◌-◌, List, [], ◌∷◌, ◌++◌, length, nat_le, if◌then◌else◌, slice_set, map, Bool, Option, None, Some}
+use Rattle.std.specs.Prelude.{ℕ, ◌-◌, List, [], ◌∷◌, length, nat_le, ◌||◌, if◌then◌else◌, slice_set, map, Bool, Option, None, Some}
 use Rattle.kr_order.specs.declared.ids.ClientId.{ClientId}
 use Rattle.kr_order.specs.declared.ids.ServerId.{ServerId}
 use Rattle.kr_order.specs.declared.history.Command.{Command}
@@ -10,25 +10,34 @@ use Rattle.kr_order.specs.declared.message.Node as nodes
 use Rattle.kr_order.specs.declared.message.Node.TheVariants.{Manager, Client as ToClient, Server as ToServer}
 use Rattle.kr_order.specs.declared.message.Packet.{Packet}
 use Rattle.kr_protocol.specs.Reaction.{Reaction}
-use Rattle.kr_protocol.specs.Server.{Server, server_takes, server_works}
-use Rattle.kr_protocol.specs.Client.{Client, Hearing, is_busy, begins, asks, client_takes}
+use Rattle.kr_protocol.specs.Server.{Server, acknowledged, server_takes, server_works, server_ticks}
+use Rattle.kr_protocol.specs.Client.{Client, Hearing, is_busy, begins, asks, retries, client_takes}
 use Rattle.script_lang.specs.declared.script.Event.{Event}
-use Rattle.script_lang.specs.declared.script.Event.TheVariants.{Call, Query, Deliver, Work}
+use Rattle.script_lang.specs.declared.script.Event.TheVariants.{Call, Query, Retry, Deliver, Lose, Tick, Work, Show}
+use Rattle.kr_order.specs.declared.view.View.{View}
+use Rattle.kr_order.specs.Held.{held_events, held_pairs}
+use Rattle.kr_world.specs.declared.shown.Shown.{Shown}
 use Rattle.kr_world.specs.declared.refusal.Refusal.{Refusal}
-use Rattle.kr_world.specs.declared.refusal.Refusal.TheVariants.{NoSuchClient, NoSuchServer, NoSuchPacket, Busy, BagFull}
-use Rattle.kr_world.specs.World.{World, server_at, client_at, packet_at, longest}
+use Rattle.kr_world.specs.declared.refusal.Refusal.TheVariants.{NoSuchClient, NoSuchServer, NoSuchPacket, Busy, NothingOpen, Lost, BagFull}
+use Rattle.kr_world.specs.World.{World, server_at, client_at, packet_at, is_marked, marked, with_packets, bytes_of, longest}
 
--- from this many packets on, no step that may send is taken
+-- from this many packets on, and from this many bytes of packets on, no step that may send is taken
 abbrev pub bag_limit : ℕ
 bag_limit = 65000
 
+abbrev pub byte_limit : ℕ
+byte_limit = 268435456
+
 abbrev pub is_full : World → Bool
-is_full world = nat_le bag_limit (length world.bag)
+is_full world = nat_le bag_limit (length world.bag) || nat_le byte_limit (bytes_of world.bag)
+
+-- a step that may send is refused where the bag is full
+abbrev pub if_full : World → Option Refusal
+if_full world = if is_full world then Some BagFull else None
 
 abbrev pub call_refusal : World → Option Client → Option Refusal
 call_refusal world None = Some NoSuchClient
-call_refusal world (Some client) =
-    if is_busy client then Some Busy else (if is_full world then Some BagFull else None)
+call_refusal world (Some client) = if is_busy client then Some Busy else if_full world
 
 -- a query is refused as a call is, but that the server has to be there too
 abbrev pub query_refusal : World → Option Client → Option Server → Option Refusal
@@ -36,20 +45,46 @@ query_refusal world None server = Some NoSuchClient
 query_refusal world (Some client) None = Some NoSuchServer
 query_refusal world (Some client) (Some server) = call_refusal world (Some client)
 
-abbrev pub work_refusal : World → Option Server → Option Refusal
-work_refusal world None = Some NoSuchServer
-work_refusal world (Some server) = if is_full world then Some BagFull else None
+-- there has to be an open call to be tried again
+abbrev pub retry_refusal : World → Option Client → Option Server → Option Refusal
+retry_refusal world None server = Some NoSuchClient
+retry_refusal world (Some client) None = Some NoSuchServer
+retry_refusal world (Some client) (Some server) = if is_busy client then if_full world else Some NothingOpen
 
-abbrev pub deliver_refusal : World → Option Packet → Option Refusal
-deliver_refusal world None = Some NoSuchPacket
-deliver_refusal world (Some packet) = if is_full world then Some BagFull else None
+-- a server that is to work or to tick has to be there
+abbrev pub turn_refusal : World → Option Server → Option Refusal
+turn_refusal world None = Some NoSuchServer
+turn_refusal world (Some server) = if_full world
+
+-- a packet that was lost is not delivered
+abbrev pub deliver_refusal : World → ℕ → Option Packet → Option Refusal
+deliver_refusal world k None = Some NoSuchPacket
+deliver_refusal world k (Some packet) = if is_marked world.lost k then Some Lost else if_full world
+
+-- nor is it lost again
+abbrev pub lose_refusal : World → ℕ → Option Packet → Option Refusal
+lose_refusal world k None = Some NoSuchPacket
+lose_refusal world k (Some packet) = if is_marked world.lost k then Some Lost else None
+
+abbrev pub show_refusal : Option Server → Option Refusal
+show_refusal None = Some NoSuchServer
+show_refusal (Some server) = None
+
+-- a server's turn; the manager's has none yet
+abbrev pub tick_refusal : World → Option ServerId → Option Refusal
+tick_refusal world None = if_full world
+tick_refusal world (Some server) = turn_refusal world (server_at world server)
 
 -- why the event is refused in this world, if it is
 abbrev pub refusal_of : World → Event → Option Refusal
 refusal_of world (Call client command) = call_refusal world (client_at world client)
 refusal_of world (Query client server pairs) = query_refusal world (client_at world client) (server_at world server)
-refusal_of world (Deliver k) = deliver_refusal world (packet_at world k)
-refusal_of world (Work server workers) = work_refusal world (server_at world server)
+refusal_of world (Retry client server) = retry_refusal world (client_at world client) (server_at world server)
+refusal_of world (Deliver k) = deliver_refusal world k (packet_at world k)
+refusal_of world (Lose k) = lose_refusal world k (packet_at world k)
+refusal_of world (Tick who) = tick_refusal world who
+refusal_of world (Work server workers) = turn_refusal world (server_at world server)
+refusal_of world (Show server) = show_refusal (server_at world server)
 
 -- a reply that a client was told in a step
 pub record Told : Type 0 where
@@ -61,23 +96,24 @@ pub record Part : Type 0 where
   pub client : ClientId
   pub part : ToldPart
 
--- a step: the world afterwards, what was told, and why it was refused
+-- a step: the world afterwards, what was told, what was shown of a server, and why it was refused
 pub record Outcome : Type 0 where
   pub after : World
   pub told : List Told
   pub parts : List Part
+  pub shown : Option Shown
   pub refused : Option Refusal
 
 abbrev pub quiet : World → Outcome
-quiet world = record { after = world; told = []; parts = []; refused = None }
+quiet world = record { after = world; told = []; parts = []; shown = None; refused = None }
 
 abbrev pub refuses : World → Refusal → Outcome
-refuses world why = record { after = world; told = []; parts = []; refused = Some why }
+refuses world why = record (quiet world) { refused = Some why }
 
 -- the client's call: its node afterwards, and its request in the bag
 abbrev pub client_sends : World → ClientId → Reaction Client → Outcome
 client_sends world client reaction =
-    quiet (record world { clients = slice_set world.clients (client.0 - 1) reaction.after; bag = world.bag ++ reaction.sent })
+    quiet (with_packets (record world { clients = slice_set world.clients (client.0 - 1) reaction.after }) reaction.sent)
 
 abbrev pub client_calls : World → ClientId → Command → Option Client → Outcome
 client_calls world client command None = quiet world
@@ -86,6 +122,11 @@ client_calls world client command (Some before) = client_sends world client (beg
 abbrev pub client_asks : World → ClientId → ServerId → List (EventId × EventId) → Option Client → Outcome
 client_asks world client server pairs None = quiet world
 client_asks world client server pairs (Some before) = client_sends world client (asks before server pairs)
+
+-- the client's open call, once more in the bag
+abbrev pub client_retries : World → ServerId → Option Client → Outcome
+client_retries world server None = quiet world
+client_retries world server (Some client) = quiet (with_packets world (retries client server))
 
 abbrev pub told_to : ClientId → Option ToldReply → List Told
 told_to client None = []
@@ -96,12 +137,13 @@ parts_to client parts = map (λ part. record { client = client; part = part }) p
 
 abbrev pub client_hears : World → ClientId → Hearing → Outcome
 client_hears world client hearing =
-    record { after = record world { clients = slice_set world.clients (client.0 - 1) hearing.after }; told = told_to client hearing.told; parts = parts_to client hearing.parts; refused = None }
+    record (quiet (record world { clients = slice_set world.clients (client.0 - 1) hearing.after })) { told = told_to client hearing.told; parts = parts_to client hearing.parts }
 
 -- a server's reaction: its node afterwards, its packets in the bag, and the history with what it has applied
 abbrev pub server_reacts : World → ServerId → Reaction Server → Outcome
 server_reacts world server reaction =
-    let servers = slice_set world.servers (server.0 - 1) reaction.after in quiet (record world { servers = servers; bag = world.bag ++ reaction.sent; history = longest world.history servers })
+    let servers = slice_set world.servers (server.0 - 1) reaction.after in
+    quiet (with_packets (record world { servers = servers; history = longest world.history servers }) reaction.sent)
 
 abbrev pub arrives_at_client : World → ClientId → Packet → Option Client → Outcome
 arrives_at_client world id packet None = quiet world
@@ -116,20 +158,59 @@ arrives world Manager packet = quiet world
 arrives world (ToClient client) packet = arrives_at_client world client packet (client_at world client)
 arrives world (ToServer server) packet = arrives_at_server world server packet (server_at world server)
 
-abbrev pub delivers : World → Option Packet → Outcome
-delivers world None = quiet world
-delivers world (Some packet) = arrives world packet.to packet
+-- the addressee takes the packet, which is marked
+abbrev pub delivers : World → ℕ → Option Packet → Outcome
+delivers world k None = quiet world
+delivers world k (Some packet) = arrives (record world { delivered = marked world.delivered k }) packet.to packet
+
+-- the packet is lost
+abbrev pub loses : World → ℕ → Outcome
+loses world k = quiet (record world { lost = marked world.lost k })
 
 abbrev pub works : World → ServerId → Option Server → Outcome
 works world id None = quiet world
 works world id (Some server) = server_reacts world id (server_works server)
 
+abbrev pub ticks_at : World → ServerId → Option Server → Outcome
+ticks_at world id None = quiet world
+ticks_at world id (Some server) = server_reacts world id (server_ticks server)
+
+abbrev pub ticks : World → Option ServerId → Outcome
+ticks world None = quiet world
+ticks world (Some server) = ticks_at world server (server_at world server)
+
+-- the number of a server's view, 0 where it has none
+abbrev pub view_number : Option View → ℕ
+view_number None = 0
+view_number (Some view) = view.number
+
+-- what is shown of a server: of the order, what its acknowledged prefix holds
+abbrev pub shown_of : ServerId → Server → Shown
+shown_of id server =
+    record {
+      server = id;
+      view = view_number server.view;
+      log = length server.log;
+      done = server.done;
+      held = length (held_events (acknowledged server));
+      pairs = length (held_pairs (acknowledged server));
+      waiting = length server.waiting;
+    }
+
+abbrev pub shows : World → ServerId → Option Server → Outcome
+shows world id None = quiet world
+shows world id (Some server) = record (quiet world) { shown = Some (shown_of id server) }
+
 -- what an event does that is not refused
 abbrev pub act : World → Event → Outcome
 act world (Call client command) = client_calls world client command (client_at world client)
 act world (Query client server pairs) = client_asks world client server pairs (client_at world client)
-act world (Deliver k) = delivers world (packet_at world k)
+act world (Retry client server) = client_retries world server (client_at world client)
+act world (Deliver k) = delivers world k (packet_at world k)
+act world (Lose k) = loses world k
+act world (Tick who) = ticks world who
 act world (Work server workers) = works world server (server_at world server)
+act world (Show server) = shows world server (server_at world server)
 
 abbrev pub unless : World → Option Refusal → Outcome → Outcome
 unless world None outcome = outcome

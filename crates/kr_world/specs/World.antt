@@ -1,26 +1,31 @@
 -- The world of a run: all views, all nodes, all packets ever sent, and the history.
-use Rattle.std.specs.Prelude.{ℕ, ◌-◌, List, [], ◌∷◌, length, map, nat_lt, if◌then◌else◌, slice_get, Option}
+use Rattle.std.specs.Prelude.{ℕ, ◌-◌, Bool, true, false, List, [], ◌∷◌, ◌++◌, length, map, nat_lt, if◌then◌else◌, slice_get, slice_set, slice_index_or, sum_by, Option}
 use Rattle.kr_order.specs.declared.ids.ClientId.{ClientId}
 use Rattle.kr_order.specs.declared.ids.ServerId.{ServerId}
 use Rattle.kr_order.specs.declared.history.Entry.{Entry}
 use Rattle.kr_order.specs.declared.message.Packet.{Packet}
 use Rattle.kr_order.specs.declared.view.View.{View}
-use Rattle.kr_order.specs.View.{numbers_to, first_view}
+use Rattle.kr_order.specs.Size.{packet_size}
+use Rattle.kr_order.specs.View.{first_view}
+use Rattle.kr_order.specs.Numbers.{numbers_to}
 use Rattle.kr_protocol.specs.Server.{Server, founder, acknowledged}
 use Rattle.kr_protocol.specs.Client.{Client, new_client}
 
--- view v of the manager is at index v - 1, server s at s - 1, client c at c - 1, packet k at k - 1
+-- view v of the manager is at index v - 1, server s at s - 1, client c at c - 1, packet k at k - 1; beside the packets
+-- stands which of them were lost and which were delivered
 pub record World : Type 0 where
   pub views : List View
   pub servers : List Server
   pub clients : List Client
   pub bag : List Packet
+  pub lost : List Bool
+  pub delivered : List Bool
   pub history : List Entry
 
 -- the world of so many servers and clients, before the first step
 abbrev pub first_world : ℕ → ℕ → World
 first_world servers clients =
-    record { views = first_view servers ∷ []; servers = map (λ n. founder (first_view servers) (record { 0 = n })) (numbers_to servers); clients = map (λ n. new_client (record { 0 = n })) (numbers_to clients); bag = []; history = [] }
+    record { views = first_view servers ∷ []; servers = map (λ n. founder (first_view servers) (record { 0 = n })) (numbers_to servers); clients = map (λ n. new_client (first_view servers) (record { 0 = n })) (numbers_to clients); bag = []; lost = []; delivered = []; history = [] }
 
 abbrev pub server_at : World → ServerId → Option Server
 server_at world server = slice_get world.servers (server.0 - 1)
@@ -30,6 +35,27 @@ client_at world client = slice_get world.clients (client.0 - 1)
 
 abbrev pub packet_at : World → ℕ → Option Packet
 packet_at world k = slice_get world.bag (k - 1)
+
+-- packet k was marked
+abbrev pub is_marked : List Bool → ℕ → Bool
+is_marked marks k = slice_index_or marks (k - 1) false
+
+-- the marks with one at packet k
+abbrev pub marked : List Bool → ℕ → List Bool
+marked marks k = slice_set marks (k - 1) true
+
+-- the packets go into the bag, and are neither lost nor delivered
+abbrev pub with_packets : World → List Packet → World
+with_packets world packets =
+    record world {
+      bag = world.bag ++ packets;
+      lost = world.lost ++ map (λ packet. false) packets;
+      delivered = world.delivered ++ map (λ packet. false) packets;
+    }
+
+-- how many bytes the packets take
+abbrev pub bytes_of : List Packet → ℕ
+bytes_of bag = sum_by packet_size bag
 
 -- the longer of two histories, the first where they are of one length
 abbrev pub longer : List Entry → List Entry → List Entry

@@ -16,7 +16,11 @@ pub enum Refusal {
     NoSuchPacket,
     /// The client has an open call.
     Busy,
-    /// 65,000 packets or more were sent before the step.
+    /// The client has no open call.
+    NothingOpen,
+    /// The packet was lost.
+    Lost,
+    /// Before the step 65,000 packets or more were sent, or packets of 268,435,456 bytes or more.
     BagFull,
 }
 
@@ -29,6 +33,8 @@ impl fmt::Display for Refusal {
             Refusal::NoSuchServer => write!(f, "NoSuchServer"),
             Refusal::NoSuchPacket => write!(f, "NoSuchPacket"),
             Refusal::Busy => write!(f, "Busy"),
+            Refusal::NothingOpen => write!(f, "NothingOpen"),
+            Refusal::Lost => write!(f, "Lost"),
             Refusal::BagFull => write!(f, "BagFull"),
         }
     }

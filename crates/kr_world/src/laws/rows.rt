@@ -3,7 +3,10 @@
 ghost use Rattle.std.specs.Prelude.{◌≡◌};
 ghost use Rattle.kr_world.specs.FullBag.{AFullBagRefuses};
 ghost use Rattle.kr_world.specs.Run.{text_of};
-ghost use Rattle.kr_world.specs.Rows.{create_an_event, create_an_event_text, request_delivered_twice, request_delivered_twice_text, refused_steps, refused_steps_text, two_events, two_events_text, concurrent_events, concurrent_events_text, bound_events, bound_events_text, three_servers, three_servers_text, down_the_chain, down_the_chain_text, entries_come_again, entries_come_again_text};
+ghost use Rattle.kr_world.specs.ChainRows.{three_servers, three_servers_text, down_the_chain, down_the_chain_text, entries_come_again, entries_come_again_text, lost_on_the_way, lost_on_the_way_text};
+ghost use Rattle.kr_world.specs.HeldRows.{events_released, events_released_text};
+ghost use Rattle.kr_world.specs.QueryRows.{concurrent_events, concurrent_events_text, bound_events, bound_events_text};
+ghost use Rattle.kr_world.specs.Rows.{create_an_event, create_an_event_text, request_delivered_twice, request_delivered_twice_text, request_tried_again, request_tried_again_text, refused_steps, refused_steps_text, two_events, two_events_text};
 
 /// One server, one client, one create.
 pub fn one_create()
@@ -16,6 +19,12 @@ pub fn a_repeated_request_has_one_place()
     ensures { text_of request_delivered_twice ≡ request_delivered_twice_text }
 {}
 
+/// The request comes three times and is tried again: each time but the first its reply is sent again, and the client
+/// takes one.
+pub fn a_call_is_tried_again()
+    ensures { text_of request_tried_again ≡ request_tried_again_text }
+{}
+
 /// Each refused word but the one for a full bag, which has the law below.
 pub fn refused_steps_change_nothing()
     ensures { text_of refused_steps ≡ refused_steps_text }
@@ -26,7 +35,8 @@ pub fn events_are_numbered_in_order()
     ensures { text_of two_events ≡ two_events_text }
 {}
 
-/// A full bag refuses each call and each query of an idle client, each delivery, and each server's work.
+/// A full bag refuses each call and each query of an idle client, each retry of an open call, each delivery, and each
+/// server's work and tick.
 pub fn a_full_bag_refuses()
     ensures { AFullBagRefuses }
 {}
@@ -55,4 +65,15 @@ pub fn a_create_goes_down_the_chain()
 /// Entries that come twice, and older ones after newer ones, are acknowledged again and not taken twice.
 pub fn entries_are_taken_once()
     ensures { text_of entries_come_again ≡ entries_come_again_text }
+{}
+
+/// A packet that is lost is not delivered. Entries that were lost are sent again when their server ticks, and a
+/// command whose reply was lost is replied again when its client tries again.
+pub fn what_is_lost_comes_again()
+    ensures { text_of lost_on_the_way ≡ lost_on_the_way_text }
+{}
+
+/// An event without a reference is held while one before it is live, and its pairs are, and no longer.
+pub fn live_events_hold_others()
+    ensures { text_of events_released ≡ events_released_text }
 {}

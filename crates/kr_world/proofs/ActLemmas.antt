@@ -1,0 +1,125 @@
+-- Every step keeps the facts.
+use Rattle.std.proofs.Common.{◌≡◌, ℕ, ◌-◌, ◌≤◌, List, length, refl, sym, subst}
+use Rattle.std.specs.Prelude.{Bool, Option, None, Some}
+use Rattle.std.proofs.lemmas.Option.{none-some}
+use Rattle.kr_order.specs.declared.ids.ClientId.{ClientId}
+use Rattle.kr_order.specs.declared.ids.ServerId.{ServerId}
+use Rattle.kr_order.specs.declared.ids.EventId.{EventId}
+use Rattle.kr_order.specs.declared.history.Command.{Command}
+use Rattle.kr_order.specs.declared.message.Node as nodes
+use Rattle.kr_order.specs.declared.message.Node.TheVariants.{Manager, Client as AtClient, Server as AtServer}
+use Rattle.kr_order.specs.declared.message.Packet.{Packet}
+use Rattle.kr_order.proofs.PrefixLemmas.{IsPrefix-refl}
+use Rattle.kr_protocol.specs.Client.{Client}
+use Rattle.kr_protocol.specs.Server.{Server}
+use Rattle.script_lang.specs.declared.script.Event.{Event}
+use Rattle.script_lang.specs.declared.script.Event.TheVariants.{Call, Query, Retry, Deliver, Lose, Tick, Work, Show}
+use Rattle.script_lang.specs.Event.{IsEvent}
+use Rattle.script_lang.specs.Script.{MayStand}
+use Rattle.kr_world.specs.declared.refusal.Refusal.{Refusal}
+use Rattle.kr_world.specs.World.{World, client_at, server_at, packet_at, marked}
+use Rattle.kr_world.specs.Step.{Outcome, call_refusal, query_refusal, client_calls, client_asks, arrives, delivers, loses, ticks, shows, act, refusal_of, unless, step}
+use Rattle.kr_world.specs.Run.{Turn}
+use Rattle.kr_world.specs.Sound.{IsSound, IsSoundPacket}
+use Rattle.kr_world.specs.Facts.{IsTrueMessage, IsTruePacket, AreFacts}
+use Rattle.kr_world.proofs.StepLemmas.{at_index, idle_client, may_ask, no_call, no_query}
+use Rattle.kr_world.proofs.BagLemmas.{delivered_sound}
+use Rattle.kr_world.proofs.FactLemmas.{marked_facts}
+use Rattle.kr_world.proofs.KeepLemmas.{turn_of, GoesOn, Keeps, tells_nothing, quiet_goes_on, goes_on_keeps, refused_keeps}
+use Rattle.kr_world.proofs.ClientLemmas.{IsPresent}
+use Rattle.kr_world.proofs.CallLemmas.{call_keeps}
+use Rattle.kr_world.proofs.AskLemmas.{query_keeps}
+use Rattle.kr_world.proofs.RetryLemmas.{retry_goes_on}
+use Rattle.kr_world.proofs.HearLemmas.{hears_goes_on}
+use Rattle.kr_world.proofs.ServerLemmas.{takes_goes_on, works_go_on, ticks_go_on}
+
+calls_keep : (past : List Turn) (world : World) (caller : ClientId) (command : Command) (found : Option Client)
+    → 1 ≤ caller.0 → client_at world caller ≡ found → call_refusal world found ≡ None → AreFacts past world
+    → Keeps past (turn_of world (Call caller command) (client_calls world caller command found))
+calls_keep past world caller command None low is none facts = absurd (none-some _ (sym none))
+calls_keep past world caller command (Some client) low is none facts =
+    let free = (idle_client world client none).idle in
+    call_keeps past world caller command client (record { low = low; here = record { at = is; facts = facts }; no_command = no_call client free; no_query = no_query client free })
+
+queries_keep : (past : List Turn) (world : World) (caller : ClientId) (server : ServerId)
+    (pairs : List (EventId × EventId)) → 1 ≤ caller.0 → 1 ≤ length pairs → length world.servers ≡ 1
+    → query_refusal world (client_at world caller) (server_at world server) ≡ None → AreFacts past world
+    → Keeps past (turn_of world (Query caller server pairs) (client_asks world caller server pairs (client_at world caller)))
+queries_keep past world caller server pairs low some alone none facts =
+    let may = may_ask world (client_at world caller) (server_at world server) none in
+    let client = may.client in
+    let free = (idle_client world client may.may_call).idle in
+    let here : IsPresent past world caller client = record { at = may.client_is; facts = facts } in
+    let kept = query_keeps past world caller server pairs client (record { low = low; here = here; no_command = no_call client free; some = some; alone = alone }) in
+    subst (λ found. Keeps past (turn_of world (Query caller server pairs) (client_asks world caller server pairs found))) (sym may.client_is) kept
+
+-- a packet is delivered to its addressee
+arrives_goes_on : (past : List Turn) (world : World) (k : ℕ) (to : nodes.Node) (packet : Packet) → packet.to ≡ to
+    → packet_at world k ≡ Some packet → IsSound world → AreFacts past world
+    → GoesOn past world (arrives world to packet)
+arrives_goes_on past world k Manager packet to at sound facts = quiet_goes_on past world world refl facts
+arrives_goes_on past world k (AtClient client) packet to at sound facts =
+    let known = at_index (IsTruePacket past world.history) world.bag (k - 1) packet facts.packets at in
+    let its = subst (λ node. IsTrueMessage past world.history packet.from node packet.message) to known in
+    hears_goes_on past world k client packet (client_at world client) refl at to its facts
+arrives_goes_on past world k (AtServer server) packet to at sound facts =
+    let known = at_index (IsTruePacket past world.history) world.bag (k - 1) packet facts.packets at in
+    let said = at_index (IsSoundPacket world.servers) world.bag (k - 1) packet sound.packets at in
+    takes_goes_on past world server packet (server_at world server) refl sound facts said known
+
+-- what goes on from a world with other marks goes on from this one
+marked_goes_on : (past : List Turn) (world : World) (delivered : List Bool) (outcome : Outcome)
+    → GoesOn past (record world { delivered = delivered }) outcome → GoesOn past world outcome
+marked_goes_on past world delivered outcome on =
+    record { taken = on.taken; facts = on.facts; tells = record { grows = on.tells.grows; told = on.tells.told; parts = on.tells.parts } }
+
+delivers_goes_on : (past : List Turn) (world : World) (k : ℕ) (found : Option Packet) → packet_at world k ≡ found
+    → IsSound world → AreFacts past world → GoesOn past world (delivers world k found)
+delivers_goes_on past world k None is sound facts = quiet_goes_on past world world refl facts
+delivers_goes_on past world k (Some packet) is sound facts =
+    let marks = marked world.delivered k in
+    let now = record world { delivered = marks } in
+    let outcome = arrives now packet.to packet in
+    marked_goes_on past world marks outcome (arrives_goes_on past now k packet.to packet refl is (delivered_sound world k sound) (marked_facts past world world.lost marks facts))
+
+ticks_goes_on : (past : List Turn) (world : World) (who : Option ServerId) → IsSound world → AreFacts past world
+    → GoesOn past world (ticks world who)
+ticks_goes_on past world None sound facts = quiet_goes_on past world world refl facts
+ticks_goes_on past world (Some server) sound facts = ticks_go_on past world server (server_at world server) refl sound facts
+
+-- what is shown changes nothing
+shows_goes_on : (past : List Turn) (world : World) (id : ServerId) (found : Option Server) → AreFacts past world
+    → GoesOn past world (shows world id found)
+shows_goes_on past world id None facts = quiet_goes_on past world world refl facts
+shows_goes_on past world id (Some server) facts =
+    record { taken = refl; facts = facts; tells = tells_nothing world (shows world id (Some server)) refl refl (IsPrefix-refl world.history) }
+
+act_keeps : (past : List Turn) (world : World) (event : Event) → refusal_of world event ≡ None → IsEvent event
+    → MayStand (length world.servers) event → IsSound world → AreFacts past world
+    → Keeps past (turn_of world event (act world event))
+act_keeps past world (Call client command) none fit stands sound facts = calls_keep past world client command (client_at world client) fit.client_fits.low refl none facts
+act_keeps past world (Query client server pairs) none fit stands sound facts = queries_keep past world client server pairs fit.client_fits.low fit.some stands none facts
+act_keeps past world (Retry client server) none fit stands sound facts =
+    goes_on_keeps past world (Retry client server) _ (λ caller. refl) (λ caller. refl) (retry_goes_on past world client server (client_at world client) refl facts)
+act_keeps past world (Deliver k) none fit stands sound facts =
+    goes_on_keeps past world (Deliver k) _ (λ caller. refl) (λ caller. refl) (delivers_goes_on past world k (packet_at world k) refl sound facts)
+act_keeps past world (Lose k) none fit stands sound facts =
+    goes_on_keeps past world (Lose k) (loses world k) (λ caller. refl) (λ caller. refl) (quiet_goes_on past world _ refl (marked_facts past world (marked world.lost k) world.delivered facts))
+act_keeps past world (Tick who) none fit stands sound facts =
+    goes_on_keeps past world (Tick who) _ (λ caller. refl) (λ caller. refl) (ticks_goes_on past world who sound facts)
+act_keeps past world (Work server workers) none fit stands sound facts =
+    goes_on_keeps past world (Work server workers) _ (λ caller. refl) (λ caller. refl) (works_go_on past world server (server_at world server) refl sound facts)
+act_keeps past world (Show server) none fit stands sound facts =
+    goes_on_keeps past world (Show server) _ (λ caller. refl) (λ caller. refl) (shows_goes_on past world server (server_at world server) facts)
+
+step_cases : (past : List Turn) (world : World) (event : Event) (refusal : Option Refusal)
+    → refusal_of world event ≡ refusal → IsEvent event → MayStand (length world.servers) event → IsSound world
+    → AreFacts past world → Keeps past (turn_of world event (unless world refusal (act world event)))
+step_cases past world event None is fit stands sound facts = act_keeps past world event is fit stands sound facts
+step_cases past world event (Some why) is fit stands sound facts = refused_keeps past world event why facts
+
+-- every step keeps the facts
+pub step_keeps : (past : List Turn) (world : World) (event : Event) → IsEvent event
+    → MayStand (length world.servers) event → IsSound world → AreFacts past world
+    → Keeps past (turn_of world event (step world event))
+step_keeps past world event fit stands sound facts = step_cases past world event (refusal_of world event) refl fit stands sound facts

@@ -1,0 +1,135 @@
+-- What a server says of itself to another is true, and stays so.
+use Rattle.std.proofs.Common.{zero, suc, ◌≡◌, ℕ, ◌-◌, ◌<◌, ◌≤◌, List, ◌++◌, length, take, drop, set, refl, sym, ap, ◌∙◌, subst, arith, inl, inr}
+use Rattle.std.specs.Prelude.{Some, slice_get}
+use Rattle.std.proofs.lemmas.Bool.{cases_eq}
+use Rattle.std.proofs.lemmas.List.{length-take, length-drop, take-append-le, drop-append-le}
+use Rattle.std.proofs.lemmas.Option.{same_Some, slice_get_within}
+use Rattle.kr_order.specs.declared.ids.ServerId.{ServerId}
+use Rattle.kr_order.specs.declared.history.Entry.{Entry}
+use Rattle.kr_order.specs.declared.message.Node as nodes
+use Rattle.kr_order.specs.declared.message.Node.TheVariants.{Manager, Client as OfClient, Server as OfServer}
+use Rattle.kr_order.specs.declared.message.Message.{Message}
+use Rattle.kr_order.specs.declared.message.Message.TheVariants.{Append, Ack}
+use Rattle.kr_order.specs.declared.message.Packet.{Packet}
+use Rattle.kr_order.specs.Prefix.{IsPrefix}
+use Rattle.kr_order.proofs.PrefixLemmas.{IsPrefix-refl, IsPrefix-length}
+use Rattle.kr_protocol.specs.Server.{Server, most_entries}
+use Rattle.kr_world.specs.Sound.{IsSoundAppend, IsSoundAck, IsSoundMessage}
+use Rattle.kr_world.proofs.ListFacts.{set_here, set_other}
+
+-- what a server says of itself to another
+abbrev pub IsSaidBy : ServerId → ℕ → List Entry → nodes.Node → Message → Type 0
+IsSaidBy id done log from (Append first entries) =
+    (from ≡ OfServer id) × (1 ≤ first) × (length entries ≤ most_entries) × (entries ≡ take (length entries) (drop (first - 1) log))
+IsSaidBy id done log from (Ack d n) = (from ≡ OfServer id) × (d ≤ done) × (n ≤ length log)
+IsSaidBy id done log from other = Unit {0}
+
+abbrev pub IsSaid : Server → Packet → Type 0
+IsSaid server packet = IsSaidBy server.id server.done server.log packet.from packet.message
+
+-- a log that grew still has what stood in it
+still_stand :
+    (log more entries : List Entry) (first : ℕ)
+    → entries ≡ take (length entries) (drop first log)
+    → entries ≡ take (length entries) (drop first (log ++ more))
+still_stand log more entries first stand =
+    let n = length entries in
+    let long : length (take n (drop first log)) ≡ n = ap length (sym stand) in
+    let enough : n ≤ length log - first = omega (arith, long, length-take n (drop first log), length-drop first log) in
+    stand ∙ sym (take-front_of_drop log more n first enough)
+  where
+    take-front_of_drop :
+        (log more : List Entry) (n first : ℕ)
+        → n ≤ length log - first
+        → take n (drop first (log ++ more)) ≡ take n (drop first log)
+    take-front_of_drop log more zero first le = refl
+    take-front_of_drop log more (suc n) first le =
+        ap (take (suc n)) (drop-append-le first log more (omega arith)) ∙ take-append-le (suc n) (drop first log) more (omega (arith, length-drop first log))
+
+-- packets stay true when a server goes on
+pub record GoesOn (old after : Server) : Type 0 where
+  pub grows : IsPrefix old.log after.log
+  pub done_grows : old.done ≤ after.done
+
+-- the server that stood at an index stands there still, or what it has become
+goes_on_at :
+    (servers : List Server) (i : ℕ) (old after : Server)
+    → slice_get servers i ≡ Some old
+    → GoesOn old after
+    → (j : ℕ) (sender : Server)
+    → slice_get servers j ≡ Some sender
+    → (now : Server) × (slice_get (set servers i after) j ≡ Some now) × GoesOn sender now
+goes_on_at servers i old after is on j sender there =
+    let lt : j < length servers = slice_get_within servers j sender there in
+    elim (cases_eq j i) [
+      | inl same ↦
+          let its : old ≡ sender = same_Some old sender (sym is ∙ subst (λ k. slice_get servers k ≡ Some sender) same there) in
+          (after, subst (λ k. slice_get (set servers i after) k ≡ Some after) (sym same) (set_here servers i after (omega arith)), subst (λ s. GoesOn s after) its on)
+      | inr other ↦
+          (sender, set_other servers i after j sender other there, record { grows = IsPrefix-refl sender.log; done_grows = omega arith })
+    ]
+
+append_stays :
+    (servers : List Server) (i : ℕ) (old after : Server) (from : nodes.Node) (first : ℕ) (entries : List Entry)
+    → slice_get servers i ≡ Some old
+    → GoesOn old after
+    → IsSoundAppend servers from first entries
+    → IsSoundAppend (set servers i after) from first entries
+append_stays servers i old after Manager first entries is on said = said
+append_stays servers i old after (OfClient client) first entries is on said = said
+append_stays servers i old after (OfServer server) first entries is on said =
+    let its = goes_on_at servers i old after is on (server.0 - 1) said.sender said.there in
+    record {
+      sender = its.0;
+      from_low = said.from_low;
+      first_low = said.first_low;
+      there = its.1;
+      few = said.few;
+      stand = subst (λ l. entries ≡ take (length entries) (drop (first - 1) l)) (sym its.2.grows.is) (still_stand said.sender.log its.2.grows.more entries (first - 1) said.stand);
+    }
+
+ack_stays :
+    (servers : List Server) (i : ℕ) (old after : Server) (from : nodes.Node) (done len : ℕ)
+    → slice_get servers i ≡ Some old
+    → GoesOn old after
+    → IsSoundAck servers from done len
+    → IsSoundAck (set servers i after) from done len
+ack_stays servers i old after Manager done len is on said = said
+ack_stays servers i old after (OfClient client) done len is on said = said
+ack_stays servers i old after (OfServer server) done len is on said =
+    let its = goes_on_at servers i old after is on (server.0 - 1) said.sender said.there in
+    let now = its.0 in
+    let longer = its.2 in
+    let more = longer.done_grows in
+    let so_far = said.done_so_far in
+    let so_long = said.len_so_far in
+    record {
+      sender = now;
+      from_low = said.from_low;
+      there = its.1;
+      done_so_far = omega arith;
+      len_so_far = omega (arith, IsPrefix-length said.sender.log now.log longer.grows);
+    }
+
+pub message_stays :
+    (servers : List Server) (i : ℕ) (old after : Server) (from : nodes.Node) (message : Message)
+    → slice_get servers i ≡ Some old
+    → GoesOn old after
+    → IsSoundMessage servers from message
+    → IsSoundMessage (set servers i after) from message
+message_stays servers i old after from (Append first entries) is on said = append_stays servers i old after from first entries is on said
+message_stays servers i old after from (Ack done len) is on said = ack_stays servers i old after from done len is on said
+message_stays servers i old after from other is on said = said
+
+-- what a server says of itself is true of the servers it is among
+pub said_message :
+    (servers : List Server) (server : Server) (from : nodes.Node) (message : Message)
+    → 1 ≤ server.id.0
+    → slice_get servers (server.id.0 - 1) ≡ Some server
+    → IsSaidBy server.id server.done server.log from message
+    → IsSoundMessage servers from message
+said_message servers server from (Append first entries) low there said =
+    subst (λ f. IsSoundAppend servers f first entries) (sym said.0) (record { sender = server; from_low = low; first_low = said.1; there = there; few = said.2; stand = said.3 })
+said_message servers server from (Ack done len) low there said =
+    subst (λ f. IsSoundAck servers f done len) (sym said.0) (record { sender = server; from_low = low; there = there; done_so_far = said.1; len_so_far = said.2 })
+said_message servers server from other low there said = said
