@@ -1,11 +1,11 @@
 -- What a change of the parts makes of their world.
-use Rattle.std.proofs.Common.{◌≡◌, ℕ, ◌-◌, ◌<◌, Bool, true, false, ltb, List, [], ◌∷◌, ◌++◌, length, refl, sym, ap, ◌∙◌, subst, arith}
+use Rattle.std.proofs.Common.{◌≡◌, ℕ, ◌+◌, ◌-◌, ◌<◌, ◌≤◌, min, Bool, true, false, ltb, List, [], ◌∷◌, ◌++◌, length, drop, refl, sym, ap, ◌∙◌, subst, arith, inl, inr}
 use Rattle.std.specs.Prelude.{Option, None, Some, map, slice_get, slice_set, All}
 use Rattle.std.specs.Option.{option_map}
 use Rattle.std.specs.declared.vec.Vec.{Vec}
 use Rattle.std.specs.declared.alloc.Global.{Global}
-use Rattle.std.proofs.lemmas.Bool.{cond-true, cond-false, ltb-true, ltb-false}
-use Rattle.std.proofs.lemmas.List.{map-set, length-map}
+use Rattle.std.proofs.lemmas.Bool.{cases_lt}
+use Rattle.std.proofs.lemmas.List.{append-nil, length-append, length-take, map-set, length-map, nil_from_length, length-drop}
 use Rattle.std.proofs.lemmas.List.Elements.{All-set}
 use Rattle.std.proofs.lemmas.Option.{slice_get-map, slice_get_within, none-some}
 use Rattle.kr_order.specs.declared.ids.ClientId.{ClientId}
@@ -14,28 +14,34 @@ use Rattle.kr_order.specs.declared.ids.EventId.{EventId}
 use Rattle.kr_order.specs.declared.history.Command.{Command}
 use Rattle.kr_order.specs.declared.history.Entry.{Entry}
 use Rattle.kr_order.specs.declared.history.DoneEntry.{DoneEntry}
+use Rattle.kr_order.specs.declared.message.Node.TheVariants.{Client as AtClient, Server as AtServer}
 use Rattle.kr_order.specs.declared.message.Packet.{Packet}
+use Rattle.kr_order.specs.declared.view.View.{View}
 use Rattle.kr_order.specs.Done.{done_from, done_of}
+use Rattle.kr_order.proofs.HistoryLemmas.{length-done_from}
 use Rattle.kr_protocol.specs.Reaction.{Reaction}
-use Rattle.kr_protocol.specs.Server.{Server, acknowledged, server_takes, server_works}
-use Rattle.kr_protocol.specs.Client.{Client, begins, asks, client_takes}
+use Rattle.kr_protocol.specs.Server.{Server, acknowledged, server_takes, server_works, server_ticks}
+use Rattle.kr_protocol.specs.Client.{Client, begins, asks, retries, client_takes}
 use Rattle.client_session.specs.declared.client.Heard.{Heard}
-use Rattle.client_session.specs.Standing.{Standing as ClientStanding}
+use Rattle.client_session.specs.ClientStanding.{ClientStanding}
 use Rattle.client_session.specs.Calls.{Opens, OpensQuery, Accepts}
 use Rattle.chain_server.specs.declared.effects.Effects.{Effects}
-use Rattle.chain_server.specs.Standing.{Standing as ServerStanding}
+use Rattle.chain_server.specs.ServerStanding.{ServerStanding}
 use Rattle.chain_server.specs.Calls.{Heeds}
-use Rattle.kr_world.specs.World.{World, client_at, server_at, longest}
+use Rattle.kr_world.specs.World.{World, client_at, server_at, packet_at, marked, with_packets, longest}
 use Rattle.kr_world.specs.declared.refusal.Refusal.TheVariants.{NoSuchClient}
-use Rattle.kr_world.specs.Step.{call_refusal, query_refusal, told_to, parts_to, client_sends, client_calls, client_asks, server_reacts, works, arrives_at_client, arrives_at_server, step}
+use Rattle.kr_world.specs.Step.{call_refusal, query_refusal, retry_refusal, told_to, parts_to, client_sends, client_calls, client_asks, client_retries, server_reacts, arrives_at_client, arrives_at_server, arrives, delivers, works, ticks_at, step}
 use Rattle.kr_world.specs.Sound.{IsSound, IsSoundPacket}
 use Rattle.script_lang.specs.declared.script.Event.{Event}
-use Rattle.kr_world.proofs.SoundLemmas.{takes_within, work_within, worlds_sound}
-use Rattle.kr_world.proofs.ReactionLemmas.{IsWithinBounds, HistoryGrows}
-use Rattle.kr_world.proofs.ServerLemmas.{history_grows}
+use Rattle.kr_world.proofs.SoundLemmas.{takes_within, work_within, tick_within, worlds_sound}
+use Rattle.kr_world.proofs.BagLemmas.{delivered_sound}
+use Rattle.kr_world.proofs.SeatLemmas.{IsSeated, own_of}
+use Rattle.kr_world.proofs.BoundsLemmas.{IsWithinBounds}
+use Rattle.kr_world.proofs.ReactionLemmas.{HistoryGrows, grows_or_stays}
+use Rattle.cluster_sim.specs.declared.parts.Bag.{Bag}
 use Rattle.cluster_sim.specs.declared.parts.Parts.{Parts}
 use Rattle.cluster_sim.specs.declared.parts.Noted.{Noted}
-use Rattle.cluster_sim.specs.Parts.{history_of, world_of, IsWhole, told_in, parts_in, noted, Makes}
+use Rattle.cluster_sim.specs.Parts.{history_of, world_of, IsCounted, IsSent, IsWhole, told_in, parts_in, noted, Makes}
 
 -- the node of a client in the parts is that of their world
 pub client_there : (parts : Parts) (client : ClientId) (node : ClientStanding) → slice_get parts.clients.items (client.0 - 1) ≡ Some node → client_at (world_of parts) client ≡ Some node.client
@@ -55,46 +61,78 @@ clients_whole : (old : List ClientStanding) (new : List ClientStanding) (i : ℕ
 clients_whole old new i node is whole all =
     subst (All (λ c. c.failed ≡ false)) (sym is) (All-set (λ c. c.failed ≡ false) old i node whole all)
 
+-- nothing was told or shown, and nothing refused
+abbrev pub nothing_noted : Noted
+nothing_noted = record { told = None; parts = None; shown = None; refused = None }
+
+-- the world of parts whose bag has more packets
+bag_after : (parts : Parts) (bag : Bag) (packets : List Packet) → IsSent parts.bag bag packets → world_of (record parts { bag = bag }) ≡ with_packets (world_of parts) packets
+bag_after parts bag packets sent =
+    let packets_are = sent.packets_are in
+    let lost = sent.lost in
+    let delivered = sent.delivered in
+    let f : List Packet → List Bool → List Bool → World = λ ps ls ds. record (world_of parts) { bag = ps; lost = ls; delivered = ds } in
+    ap (λ ps. f ps bag.lost.items bag.delivered.items) packets_are ∙ ap (λ ls. f (parts.bag.packets ++ packets) ls bag.delivered.items) lost ∙ ap (f (parts.bag.packets ++ packets) (parts.bag.lost.items ++ map (λ packet. false) packets)) delivered
+
 -- what a client sends: its node and the bag have changed
-client_sent : (parts : Parts) (clients : Vec ClientStanding Global) (bag : List Packet) (client : ClientId) (new : ClientStanding) (reaction : Reaction Client) (packet : Packet) (noted : Noted) → IsWhole parts → clients.items ≡ slice_set parts.clients.items (client.0 - 1) new → new ≡ record { client = reaction.after; failed = false } → reaction.sent ≡ packet ∷ [] → bag ≡ parts.bag ++ packet ∷ [] → noted ≡ record { told = None; parts = None; refused = None } → Makes (client_sends (world_of parts) client reaction) (record parts { clients = clients; bag = bag }) noted
-client_sent parts clients bag client new reaction packet noted whole is after sends sent quiet =
+client_sent : (parts : Parts) (clients : Vec ClientStanding Global) (bag : Bag) (client : ClientId) (new : ClientStanding) (reaction : Reaction Client) (packet : Packet) → IsWhole parts → clients.items ≡ slice_set parts.clients.items (client.0 - 1) new → new ≡ record { client = reaction.after; failed = false } → reaction.sent ≡ packet ∷ [] → IsSent parts.bag bag (packet ∷ []) → Makes (client_sends (world_of parts) client reaction) (record parts { clients = clients; bag = bag }) nothing_noted
+client_sent parts clients bag client new reaction packet whole is after sends sent =
     let node_after : new.client ≡ reaction.after = ap (λ (s : ClientStanding). s.client) after in
+    let nodes = clients_after parts clients (client.0 - 1) new reaction.after is node_after in
+    let bags = bag_after (record parts { clients = clients }) bag (packet ∷ []) sent in
+    let w = world_of parts in
     record {
-      after = (let nodes = clients_after parts clients (client.0 - 1) new reaction.after is node_after in
-          let bags : bag ≡ parts.bag ++ reaction.sent = sent ∙ ap (λ ps. parts.bag ++ ps) (sym sends) in
-          let f : List Client → List Packet → World = λ cs ps. record (world_of parts) { clients = cs; bag = ps } in
-          ap (λ cs. f cs bag) nodes ∙ ap (λ ps. f (slice_set (world_of parts).clients (client.0 - 1) reaction.after) ps) bags);
-      told = ap (λ n. told_in n.told) quiet;
-      parts = ap (λ n. parts_in n.parts) quiet;
-      refused = ap (λ n. n.refused) quiet;
+      after = bags ∙ ap (λ cs. with_packets (record w { clients = cs }) (packet ∷ [])) nodes ∙ ap (with_packets (record w { clients = slice_set w.clients (client.0 - 1) reaction.after })) (sym sends);
+      told = refl;
+      parts = refl;
+      shown = refl;
+      refused = refl;
       servers = whole.servers;
       clients = clients_whole parts.clients.items clients.items (client.0 - 1) new is (ap (λ (s : ClientStanding). s.failed) after) whole.clients;
       journal = whole.journal;
+      counted = sent.counted;
     }
 
 -- a client's command
-pub client_called : (parts : Parts) (clients : Vec ClientStanding Global) (bag : List Packet) (client : ClientId) (command : Command) (old new : ClientStanding) (packet : Packet) (noted : Noted) → IsWhole parts → slice_get parts.clients.items (client.0 - 1) ≡ Some old → clients.items ≡ slice_set parts.clients.items (client.0 - 1) new → Opens old command packet new → bag ≡ parts.bag ++ packet ∷ [] → noted ≡ record { told = None; parts = None; refused = None } → Makes (client_calls (world_of parts) client command (client_at (world_of parts) client)) (record parts { clients = clients; bag = bag }) noted
-client_called parts clients bag client command old new packet noted whole there is opens sent quiet =
-    subst (λ found. Makes (client_calls (world_of parts) client command found) (record parts { clients = clients; bag = bag }) noted) (sym (client_there parts client old there)) (client_sent parts clients bag client new (begins old.client command) packet noted whole is opens.after opens.sent sent quiet)
+pub client_called : (parts : Parts) (clients : Vec ClientStanding Global) (bag : Bag) (client : ClientId) (command : Command) (old new : ClientStanding) (packet : Packet) → IsWhole parts → slice_get parts.clients.items (client.0 - 1) ≡ Some old → clients.items ≡ slice_set parts.clients.items (client.0 - 1) new → Opens old command packet new → IsSent parts.bag bag (packet ∷ []) → Makes (client_calls (world_of parts) client command (client_at (world_of parts) client)) (record parts { clients = clients; bag = bag }) nothing_noted
+client_called parts clients bag client command old new packet whole there is opens sent =
+    subst (λ found. Makes (client_calls (world_of parts) client command found) (record parts { clients = clients; bag = bag }) nothing_noted) (sym (client_there parts client old there)) (client_sent parts clients bag client new (begins old.client command) packet whole is opens.after opens.sent sent)
 
 -- a client's query
-pub client_asked : (parts : Parts) (clients : Vec ClientStanding Global) (bag : List Packet) (client : ClientId) (server : ServerId) (pairs : List (EventId × EventId)) (old new : ClientStanding) (packet : Packet) (noted : Noted) → IsWhole parts → slice_get parts.clients.items (client.0 - 1) ≡ Some old → clients.items ≡ slice_set parts.clients.items (client.0 - 1) new → OpensQuery old server pairs packet new → bag ≡ parts.bag ++ packet ∷ [] → noted ≡ record { told = None; parts = None; refused = None } → Makes (client_asks (world_of parts) client server pairs (client_at (world_of parts) client)) (record parts { clients = clients; bag = bag }) noted
-client_asked parts clients bag client server pairs old new packet noted whole there is opens sent quiet =
-    subst (λ found. Makes (client_asks (world_of parts) client server pairs found) (record parts { clients = clients; bag = bag }) noted) (sym (client_there parts client old there)) (client_sent parts clients bag client new (asks old.client server pairs) packet noted whole is opens.after opens.sent sent quiet)
+pub client_asked : (parts : Parts) (clients : Vec ClientStanding Global) (bag : Bag) (client : ClientId) (server : ServerId) (pairs : List (EventId × EventId)) (old new : ClientStanding) (packet : Packet) → IsWhole parts → slice_get parts.clients.items (client.0 - 1) ≡ Some old → clients.items ≡ slice_set parts.clients.items (client.0 - 1) new → OpensQuery old server pairs packet new → IsSent parts.bag bag (packet ∷ []) → Makes (client_asks (world_of parts) client server pairs (client_at (world_of parts) client)) (record parts { clients = clients; bag = bag }) nothing_noted
+client_asked parts clients bag client server pairs old new packet whole there is opens sent =
+    subst (λ found. Makes (client_asks (world_of parts) client server pairs found) (record parts { clients = clients; bag = bag }) nothing_noted) (sym (client_there parts client old there)) (client_sent parts clients bag client new (asks old.client server pairs) packet whole is opens.after opens.sent sent)
+
+-- a client's call once more
+pub client_retried : (parts : Parts) (bag : Bag) (client : ClientId) (server : ServerId) (node : ClientStanding) (packet : Packet) → IsWhole parts → slice_get parts.clients.items (client.0 - 1) ≡ Some node → retries node.client server ≡ packet ∷ [] → IsSent parts.bag bag (packet ∷ []) → Makes (client_retries (world_of parts) server (client_at (world_of parts) client)) (record parts { bag = bag }) nothing_noted
+client_retried parts bag client server node packet whole there sends sent =
+    subst (λ found. Makes (client_retries (world_of parts) server found) (record parts { bag = bag }) nothing_noted) (sym (client_there parts client node there)) (record {
+      after = bag_after parts bag (packet ∷ []) sent ∙ ap (with_packets (world_of parts)) (sym sends);
+      told = refl;
+      parts = refl;
+      shown = refl;
+      refused = refl;
+      servers = whole.servers;
+      clients = whole.clients;
+      journal = whole.journal;
+      counted = sent.counted;
+    })
 
 -- a packet that a client heard: its node has changed
-pub client_heard : (parts : Parts) (clients : Vec ClientStanding Global) (client : ClientId) (old new : ClientStanding) (packet : Packet) (heard : Heard) (noted : Noted) → IsWhole parts → slice_get parts.clients.items (client.0 - 1) ≡ Some old → clients.items ≡ slice_set parts.clients.items (client.0 - 1) new → Accepts old packet heard new → noted.refused ≡ None → told_in noted.told ≡ told_to client heard.told → parts_in noted.parts ≡ parts_to client heard.parts → Makes (arrives_at_client (world_of parts) client packet (client_at (world_of parts) client)) (record parts { clients = clients }) noted
-client_heard parts clients client old new packet heard noted whole there is accepts none told parts_told =
+pub client_heard : (parts : Parts) (clients : Vec ClientStanding Global) (client : ClientId) (old new : ClientStanding) (packet : Packet) (heard : Heard) (noting : Noted) → IsWhole parts → slice_get parts.clients.items (client.0 - 1) ≡ Some old → clients.items ≡ slice_set parts.clients.items (client.0 - 1) new → Accepts old packet heard new → noting.refused ≡ None → noting.shown ≡ None → told_in noting.told ≡ told_to client heard.told → parts_in noting.parts ≡ parts_to client heard.parts → Makes (arrives_at_client (world_of parts) client packet (client_at (world_of parts) client)) (record parts { clients = clients }) noting
+client_heard parts clients client old new packet heard noting whole there is accepts none unshown told parts_told =
     let node_after : new.client ≡ (client_takes old.client packet).after = ap (λ (s : ClientStanding). s.client) accepts.heeds.after in
-    subst (λ found. Makes (arrives_at_client (world_of parts) client packet found) (record parts { clients = clients }) noted) (sym (client_there parts client old there)) (record {
-      after = (let nodes = clients_after parts clients (client.0 - 1) new (client_takes old.client packet).after is node_after in
-          let f : List Client → World = λ cs. record (world_of parts) { clients = cs } in ap f nodes);
+    let nodes = clients_after parts clients (client.0 - 1) new (client_takes old.client packet).after is node_after in
+    subst (λ found. Makes (arrives_at_client (world_of parts) client packet found) (record parts { clients = clients }) noting) (sym (client_there parts client old there)) (record {
+      after = ap (λ cs. record (world_of parts) { clients = cs }) nodes;
       told = told ∙ ap (told_to client) accepts.heeds.told;
       parts = parts_told ∙ ap (parts_to client) accepts.heeds.parts;
+      shown = unshown;
       refused = none;
       servers = whole.servers;
       clients = clients_whole parts.clients.items clients.items (client.0 - 1) new is (ap (λ (s : ClientStanding). s.failed) accepts.heeds.after) whole.clients;
       journal = whole.journal;
+      counted = whole.counted;
     })
 
 -- a journal is of the history whose done entries it has
@@ -106,7 +144,7 @@ pub history_of-done_of : (history : List Entry) → history_of (done_of history)
 history_of-done_of history = history_of-done_from [] history
 
 -- the parts with another server at an index
-servers_after : (parts : Parts) (servers : Vec ServerStanding Global) (i : ℕ) (node : ServerStanding) (after : Server) → servers.items ≡ slice_set parts.servers.items i node → node.server ≡ after → map (λ (s : ServerStanding). s.server) servers.items ≡ slice_set (world_of parts).servers i after
+servers_after : (parts : Parts) (servers : List ServerStanding) (i : ℕ) (node : ServerStanding) (after : Server) → servers ≡ slice_set parts.servers.items i node → node.server ≡ after → map (λ (s : ServerStanding). s.server) servers ≡ slice_set (world_of parts).servers i after
 servers_after parts servers i node after is same =
     ap (map (λ (s : ServerStanding). s.server)) is ∙ map-set (λ (s : ServerStanding). s.server) parts.servers.items i node ∙ ap (slice_set (world_of parts).servers i) same
 
@@ -114,80 +152,138 @@ servers_whole : (old : List ServerStanding) (new : List ServerStanding) (i : ℕ
 servers_whole old new i node is whole all =
     subst (All (λ s. s.failed ≡ false)) (sym is) (All-set (λ s. s.failed ≡ false) old i node whole all)
 
--- the history and the journal once a server has gone on
-record Notes (w : World) (journal committed : List DoneEntry) (servers : List Server) (done : ℕ) : Type 0 where
-  history : history_of (noted journal done committed) ≡ longest w.history servers
-  dones : noted journal done committed ≡ done_of (longest w.history servers)
+-- so many of a server's entries are acknowledged
+length-applied : (server : Server) → server.done ≤ length server.log → length (done_of (acknowledged server)) ≡ server.done
+length-applied server within =
+    omega (arith, length-done_from [] (acknowledged server), length-take server.done server.log)
 
-notes : (w : World) (journal committed : List DoneEntry) (servers : List Server) (old after : Server) → w.history ≡ history_of journal → journal ≡ done_of (history_of journal) → done_of (acknowledged after) ≡ done_of (acknowledged old) ++ committed → HistoryGrows w.history servers old after → Notes w journal committed servers after.done
-notes w journal committed servers old after is whole applied grows = by_test (ltb (length journal) after.done) refl
-  where
-    counted : length journal ≡ length w.history
-    counted = sym (ap length is ∙ length-map journal (λ (d : DoneEntry). d.entry))
+-- the journal once a server has gone on is that of the history
+notes : (history : List Entry) (journal committed : List DoneEntry) (servers : List Server) (old after : Server) → history ≡ history_of journal → journal ≡ done_of (history_of journal) → done_of (acknowledged after) ≡ done_of (acknowledged old) ++ committed → old.done ≤ length old.log → after.done ≤ length after.log → HistoryGrows history servers old after → noted journal old.done committed ≡ done_of (longest history servers)
+notes history journal committed servers old after is whole applied low high grows =
+    elim (cases_lt (length history) after.done) [
+      | inl more ↦
+          let grown = grows.more more in
+          let same : journal ≡ done_of (acknowledged old) = whole ∙ ap done_of (sym is ∙ sym grown.1) in
+          let none : length journal - old.done ≡ 0 = omega (arith, ap length same, length-applied old low) in
+          ap (λ n. journal ++ drop n committed) none ∙ ap (λ j. j ++ committed) same ∙ sym applied ∙ ap done_of (sym grown.0)
+      | inr few ↦
+          let kept = grows.kept few in
+          let counted : length journal ≡ length history = sym (ap length is ∙ length-map journal (λ (d : DoneEntry). d.entry)) in
+          let all : length (done_of (acknowledged after)) ≡ length (done_of (acknowledged old)) + length committed = ap length applied ∙ length-append (done_of (acknowledged old)) committed in
+          let none : drop (length journal - old.done) committed ≡ [] = nil_from_length (drop (length journal - old.done) committed) (omega (arith, length-drop (length journal - old.done) committed, length-applied old low, length-applied after high)) in
+          ap (λ cs. journal ++ cs) none ∙ append-nil journal ∙ whole ∙ ap done_of (sym is ∙ sym kept)
+    ]
 
-    by_test : (more : Bool) → ltb (length journal) after.done ≡ more → Notes w journal committed servers after.done
-    by_test true test =
-        let grown = grows.more (omega (arith, counted, ltb-true (length journal) after.done test)) in
-        let now : noted journal after.done committed ≡ journal ++ committed = cond-true (ltb (length journal) after.done) (journal ++ committed) journal test in
-        let dones : journal ++ committed ≡ done_of (acknowledged after) = ap (λ l. l ++ committed) (whole ∙ ap done_of (sym is ∙ sym grown.1)) ∙ sym applied in
-        record {
-          history = ap history_of (now ∙ dones) ∙ history_of-done_of (acknowledged after) ∙ sym grown.0;
-          dones = now ∙ dones ∙ ap done_of (sym grown.0);
-        }
-    by_test false test =
-        let kept = grows.kept (omega (arith, counted, ltb-false (length journal) after.done test)) in
-        let now : noted journal after.done committed ≡ journal = cond-false (ltb (length journal) after.done) (journal ++ committed) journal test in
-        record {
-          history = ap history_of now ∙ sym is ∙ sym kept;
-          dones = now ∙ whole ∙ ap done_of (sym is ∙ sym kept);
-        }
+-- what has become of the parts once a server has gone on
+pub record IsSettled (parts made : Parts) (server : ServerId) (old new : ServerStanding) (effects : Effects) : Type 0 where
+  pub there : slice_get parts.servers.items (server.0 - 1) ≡ Some old
+  pub views : made.views ≡ parts.views
+  pub nodes : made.servers.items ≡ slice_set parts.servers.items (server.0 - 1) new
+  pub callers : made.clients ≡ parts.clients
+  pub bag : IsSent parts.bag made.bag effects.packets
+  pub journal : made.journal ≡ noted parts.journal old.server.done effects.committed
 
 -- a server's reaction: its node, the bag and the journal have changed
-server_reacted : (parts : Parts) (servers : Vec ServerStanding Global) (bag : List Packet) (journal : List DoneEntry) (server : ServerId) (old new : ServerStanding) (reaction : Reaction Server) (effects : Effects) (noting : Noted) → IsWhole parts → slice_get parts.servers.items (server.0 - 1) ≡ Some old → servers.items ≡ slice_set parts.servers.items (server.0 - 1) new → IsWithinBounds (world_of parts).servers (world_of parts).history old.server reaction → Heeds old reaction effects new → bag ≡ parts.bag ++ effects.packets → journal ≡ noted parts.journal new.server.done effects.committed → noting ≡ record { told = None; parts = None; refused = None } → Makes (server_reacts (world_of parts) server reaction) (record parts { servers = servers; bag = bag; journal = journal }) noting
-server_reacted parts servers bag journal server old new reaction effects noting whole there is bounds heeds sent noted_down quiet =
+pub server_reacted : (parts made : Parts) (server : ServerId) (old new : ServerStanding) (reaction : Reaction Server) (effects : Effects) → IsWhole parts → IsSettled parts made server old new effects → IsWithinBounds (world_of parts) old.server reaction → Heeds old reaction effects new → Makes (server_reacts (world_of parts) server reaction) made nothing_noted
+server_reacted parts made server old new reaction effects whole settled bounds heeds =
     let i = server.0 - 1 in
     let w = world_of parts in
-    let at : server_at w server ≡ Some old.server = server_there parts server old there in
+    let at : server_at w server ≡ Some old.server = server_there parts server old settled.there in
+    let seat : IsSeated w server old.server = record { at = at; sound = whole.sound } in
+    let own = own_of w server old.server seat in
     let node_after : new.server ≡ reaction.after = ap (λ (s : ServerStanding). s.server) heeds.after in
-    let grows = history_grows w server old.server reaction at whole.sound bounds in
-    let note = notes w parts.journal effects.committed (slice_set w.servers i reaction.after) old.server reaction.after refl whole.journal heeds.committed grows in
-    let bags : bag ≡ w.bag ++ reaction.sent = sent ∙ ap (λ ps. w.bag ++ ps) heeds.sent in
-    let nodes = servers_after parts servers i new reaction.after is node_after in
-    let down : journal ≡ noted parts.journal reaction.after.done effects.committed = noted_down ∙ ap (λ (s : Server). noted parts.journal s.done effects.committed) node_after in
+    let grows = grows_or_stays w server old.server reaction seat bounds in
+    let ss = slice_set w.servers i reaction.after in
+    let down : made.journal ≡ done_of (longest w.history ss) = settled.journal ∙ notes w.history parts.journal effects.committed ss old.server reaction.after refl whole.journal heeds.committed own.done bounds.done grows in
+    let history : history_of made.journal ≡ longest w.history ss = ap history_of down ∙ history_of-done_of (longest w.history ss) in
+    let nodes : map (λ (s : ServerStanding). s.server) made.servers.items ≡ ss = servers_after parts made.servers.items i new reaction.after settled.nodes node_after in
+    let clients : map (λ (c : ClientStanding). c.client) made.clients.items ≡ w.clients = ap (λ (cs : Vec ClientStanding Global). map (λ (c : ClientStanding). c.client) cs.items) settled.callers in
+    let f : List View → List Server → List Client → List Entry → World = λ vs ns cs h. record { views = vs; servers = ns; clients = cs; bag = made.bag.packets; lost = made.bag.lost.items; delivered = made.bag.delivered.items; history = h } in
+    let changed : world_of made ≡ f parts.views ss w.clients (longest w.history ss) = ap (λ vs. f vs (map (λ (s : ServerStanding). s.server) made.servers.items) (map (λ (c : ClientStanding). c.client) made.clients.items) (history_of made.journal)) settled.views ∙ ap (λ ns. f parts.views ns (map (λ (c : ClientStanding). c.client) made.clients.items) (history_of made.journal)) nodes ∙ ap (λ cs. f parts.views ss cs (history_of made.journal)) clients ∙ ap (f parts.views ss w.clients) history in
+    let g : List Packet → List Bool → List Bool → World = λ ps ls ds. record w { servers = ss; history = longest w.history ss; bag = ps; lost = ls; delivered = ds } in
+    let sent = settled.bag in
+    let packets = effects.packets in
+    let bags : f parts.views ss w.clients (longest w.history ss) ≡ with_packets (record w { servers = ss; history = longest w.history ss }) packets = ap (λ ps. g ps made.bag.lost.items made.bag.delivered.items) sent.packets_are ∙ ap (λ ls. g (w.bag ++ packets) ls made.bag.delivered.items) sent.lost ∙ ap (g (w.bag ++ packets) (w.lost ++ map (λ packet. false) packets)) sent.delivered in
     record {
-      after = (let f : List Server → List Packet → List Entry → World = λ ss ps h. record w { servers = ss; bag = ps; history = h } in
-          ap (λ ss. f ss bag (history_of journal)) nodes ∙ ap (λ ps. f (slice_set w.servers i reaction.after) ps (history_of journal)) bags ∙ ap (f (slice_set w.servers i reaction.after) (w.bag ++ reaction.sent)) (ap history_of down ∙ note.history));
-      told = ap (λ n. told_in n.told) quiet;
-      parts = ap (λ n. parts_in n.parts) quiet;
-      refused = ap (λ n. n.refused) quiet;
-      servers = servers_whole parts.servers.items servers.items i new is (ap (λ (s : ServerStanding). s.failed) heeds.after) whole.servers;
-      clients = whole.clients;
-      journal = down ∙ note.dones ∙ ap done_of (sym (ap history_of down ∙ note.history));
+      after = changed ∙ bags ∙ ap (with_packets (record w { servers = ss; history = longest w.history ss })) heeds.sent;
+      told = refl;
+      parts = refl;
+      shown = refl;
+      refused = refl;
+      servers = servers_whole parts.servers.items made.servers.items i new settled.nodes (ap (λ (s : ServerStanding). s.failed) heeds.after) whole.servers;
+      clients = subst (λ (cs : Vec ClientStanding Global). All (λ c. c.failed ≡ false) cs.items) (sym settled.callers) whole.clients;
+      journal = down ∙ ap done_of (sym history);
+      counted = sent.counted;
     }
 
 -- a server takes a packet
-pub server_took : (parts : Parts) (servers : Vec ServerStanding Global) (bag : List Packet) (journal : List DoneEntry) (server : ServerId) (old new : ServerStanding) (packet : Packet) (effects : Effects) (noting : Noted) → IsWhole parts → slice_get parts.servers.items (server.0 - 1) ≡ Some old → servers.items ≡ slice_set parts.servers.items (server.0 - 1) new → IsSoundPacket (world_of parts).servers packet → Heeds old (server_takes old.server packet) effects new → bag ≡ parts.bag ++ effects.packets → journal ≡ noted parts.journal new.server.done effects.committed → noting ≡ record { told = None; parts = None; refused = None } → Makes (arrives_at_server (world_of parts) server packet (server_at (world_of parts) server)) (record parts { servers = servers; bag = bag; journal = journal }) noting
-server_took parts servers bag journal server old new packet effects noting whole there is said heeds sent noted_down quiet =
-    subst (λ found. Makes (arrives_at_server (world_of parts) server packet found) (record parts { servers = servers; bag = bag; journal = journal }) noting) (sym (server_there parts server old there)) (server_reacted parts servers bag journal server old new (server_takes old.server packet) effects noting whole there is (takes_within (world_of parts) server packet old.server (server_there parts server old there) whole.sound said) heeds sent noted_down quiet)
+pub server_took : (parts made : Parts) (server : ServerId) (old new : ServerStanding) (packet : Packet) (effects : Effects) → IsWhole parts → IsSettled parts made server old new effects → IsSoundPacket (world_of parts).servers packet → Heeds old (server_takes old.server packet) effects new → Makes (arrives_at_server (world_of parts) server packet (server_at (world_of parts) server)) made nothing_noted
+server_took parts made server old new packet effects whole settled said heeds =
+    let at = server_there parts server old settled.there in
+    let bounds = takes_within (world_of parts) server packet old.server (record { at = at; sound = whole.sound }) said in
+    subst (λ found. Makes (arrives_at_server (world_of parts) server packet found) made nothing_noted) (sym at) (server_reacted parts made server old new (server_takes old.server packet) effects whole settled bounds heeds)
 
 -- a server works
-pub server_worked : (parts : Parts) (servers : Vec ServerStanding Global) (bag : List Packet) (journal : List DoneEntry) (server : ServerId) (old new : ServerStanding) (effects : Effects) (noting : Noted) → IsWhole parts → slice_get parts.servers.items (server.0 - 1) ≡ Some old → servers.items ≡ slice_set parts.servers.items (server.0 - 1) new → Heeds old (server_works old.server) effects new → bag ≡ parts.bag ++ effects.packets → journal ≡ noted parts.journal new.server.done effects.committed → noting ≡ record { told = None; parts = None; refused = None } → Makes (works (world_of parts) server (server_at (world_of parts) server)) (record parts { servers = servers; bag = bag; journal = journal }) noting
-server_worked parts servers bag journal server old new effects noting whole there is heeds sent noted_down quiet =
-    subst (λ found. Makes (works (world_of parts) server found) (record parts { servers = servers; bag = bag; journal = journal }) noting) (sym (server_there parts server old there)) (server_reacted parts servers bag journal server old new (server_works old.server) effects noting whole there is (work_within (world_of parts) server old.server (server_there parts server old there) whole.sound) heeds sent noted_down quiet)
+pub server_worked : (parts made : Parts) (server : ServerId) (old new : ServerStanding) (effects : Effects) → IsWhole parts → IsSettled parts made server old new effects → Heeds old (server_works old.server) effects new → Makes (works (world_of parts) server (server_at (world_of parts) server)) made nothing_noted
+server_worked parts made server old new effects whole settled heeds =
+    let at = server_there parts server old settled.there in
+    let bounds = work_within (world_of parts) server old.server (record { at = at; sound = whole.sound }) in
+    subst (λ found. Makes (works (world_of parts) server found) made nothing_noted) (sym at) (server_reacted parts made server old new (server_works old.server) effects whole settled bounds heeds)
+
+-- a server ticks
+pub server_ticked : (parts made : Parts) (server : ServerId) (old new : ServerStanding) (effects : Effects) → IsWhole parts → IsSettled parts made server old new effects → Heeds old (server_ticks old.server) effects new → Makes (ticks_at (world_of parts) server (server_at (world_of parts) server)) made nothing_noted
+server_ticked parts made server old new effects whole settled heeds =
+    let at = server_there parts server old settled.there in
+    let bounds = tick_within (world_of parts) server old.server (record { at = at; sound = whole.sound }) in
+    subst (λ found. Makes (ticks_at (world_of parts) server found) made nothing_noted) (sym at) (server_reacted parts made server old new (server_ticks old.server) effects whole settled bounds heeds)
+
+-- the world of parts in whose bag a packet was marked as delivered
+pub delivered_after : (parts : Parts) (bag : Bag) (k : ℕ) → bag.packets ≡ parts.bag.packets → bag.lost ≡ parts.bag.lost → bag.delivered.items ≡ slice_set parts.bag.delivered.items (k - 1) true → world_of (record parts { bag = bag }) ≡ record (world_of parts) { delivered = marked (world_of parts).delivered k }
+delivered_after parts bag k packets lost delivered =
+    let f : List Packet → Vec Bool Global → List Bool → World = λ ps ls ds. record (world_of parts) { bag = ps; lost = ls.items; delivered = ds } in
+    ap (λ ps. f ps bag.lost bag.delivered.items) packets ∙ ap (λ ls. f parts.bag.packets ls bag.delivered.items) lost ∙ ap (f parts.bag.packets parts.bag.lost) delivered
+
+-- such parts are whole
+pub delivered_whole : (parts : Parts) (bag : Bag) (k : ℕ) → IsWhole parts → bag.packets ≡ parts.bag.packets → bag.lost ≡ parts.bag.lost → bag.delivered.items ≡ slice_set parts.bag.delivered.items (k - 1) true → bag.bytes ≡ parts.bag.bytes → IsWhole (record parts { bag = bag })
+delivered_whole parts bag k whole packets lost delivered bytes =
+    record {
+      servers = whole.servers;
+      clients = whole.clients;
+      journal = whole.journal;
+      counted = still_counted bag packets bytes whole.counted;
+      sound = subst IsSound (sym (delivered_after parts bag k packets lost delivered)) (delivered_sound (world_of parts) k whole.sound);
+    }
+  where
+    still_counted : (bag : Bag) → bag.packets ≡ parts.bag.packets → bag.bytes ≡ parts.bag.bytes → IsCounted parts.bag → IsCounted bag
+    still_counted bag packets bytes counted = rw (packets, bytes) counted
+
+-- a client of the world is in the parts
+client_within : (parts : Parts) (client : ClientId) (node : Client) → client_at (world_of parts) client ≡ Some node → client.0 - 1 < length parts.clients.items
+client_within parts client node is =
+    omega (arith, slice_get_within (world_of parts).clients (client.0 - 1) node is, length-map parts.clients.items (λ (c : ClientStanding). c.client))
 
 -- a client whose call is not refused is there
 pub caller_there : (parts : Parts) (client : ClientId) (found : Option Client) → client_at (world_of parts) client ≡ found → call_refusal (world_of parts) found ≡ None → client.0 - 1 < length parts.clients.items
 caller_there parts client None is none = absurd (none-some NoSuchClient (sym none))
-caller_there parts client (Some node) is none =
-    omega (arith, slice_get_within (world_of parts).clients (client.0 - 1) node is, length-map parts.clients.items (λ (c : ClientStanding). c.client))
-
--- after a step of whole parts the parts are whole
-pub whole_after : (old new : Parts) (event : Event) (noted : Noted) → IsWhole old → Makes (step (world_of old) event) new noted → IsWhole new
-whole_after old new event noted whole made =
-    record { servers = made.servers; clients = made.clients; journal = made.journal; sound = subst IsSound (sym made.after) (worlds_sound.later (world_of old) event whole.sound) }
+caller_there parts client (Some node) is none = client_within parts client node is
 
 -- so is one whose query is not refused
 pub asker_there : (parts : Parts) (client : ClientId) (found : Option Client) (other : Option Server) → client_at (world_of parts) client ≡ found → query_refusal (world_of parts) found other ≡ None → client.0 - 1 < length parts.clients.items
 asker_there parts client None other is none = absurd (none-some NoSuchClient (sym none))
-asker_there parts client (Some node) other is none =
-    omega (arith, slice_get_within (world_of parts).clients (client.0 - 1) node is, length-map parts.clients.items (λ (c : ClientStanding). c.client))
+asker_there parts client (Some node) other is none = client_within parts client node is
+
+-- and one whose call may be tried again
+pub retrier_there : (parts : Parts) (client : ClientId) (found : Option Client) (other : Option Server) → client_at (world_of parts) client ≡ found → retry_refusal (world_of parts) found other ≡ None → client.0 - 1 < length parts.clients.items
+retrier_there parts client None other is none = absurd (none-some NoSuchClient (sym none))
+retrier_there parts client (Some node) other is none = client_within parts client node is
+
+-- after a step of whole parts the parts are whole
+pub whole_after : (old new : Parts) (event : Event) (noting : Noted) → IsWhole old → Makes (step (world_of old) event) new noting → IsWhole new
+whole_after old new event noting whole made =
+    record {
+      servers = made.servers;
+      clients = made.clients;
+      journal = made.journal;
+      counted = made.counted;
+      sound = subst IsSound (sym made.after) (worlds_sound.later (world_of old) event whole.sound);
+    }

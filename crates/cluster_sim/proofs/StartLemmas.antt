@@ -1,21 +1,24 @@
 -- The nodes that a cluster begins with, one more of them.
-use Rattle.std.proofs.Common.{suc, ◌≡◌, ℕ, ◌+◌, ◌≤◌, false, List, [], ◌∷◌, ◌++◌, map, refl, sym, ap, ◌∙◌, subst, arith}
+use Rattle.std.proofs.Common.{suc, ◌≡◌, ℕ, ◌+◌, ◌≤◌, Bool, false, List, [], ◌∷◌, ◌++◌, map, refl, sym, ap, ◌∙◌, subst, arith}
 use Rattle.std.specs.Prelude.{All}
 use Rattle.std.proofs.lemmas.List.{map-append}
 use Rattle.std.proofs.lemmas.List.Elements.{All-map}
 use Rattle.kr_order.specs.declared.view.View.{View}
-use Rattle.kr_order.specs.View.{numbers_to, first_view}
+use Rattle.kr_order.specs.View.{first_view}
+use Rattle.kr_order.specs.Numbers.{numbers_to}
 use Rattle.kr_order.specs.Done.{done_of}
 use Rattle.kr_protocol.specs.Server.{Server, founder}
 use Rattle.kr_protocol.specs.Client.{Client, new_client}
-use Rattle.chain_server.specs.Standing.{Standing as ServerStanding}
-use Rattle.client_session.specs.Standing.{Standing as ClientStanding}
+use Rattle.chain_server.specs.ServerStanding.{ServerStanding}
+use Rattle.client_session.specs.ClientStanding.{ClientStanding}
 use Rattle.kr_world.specs.World.{World, first_world}
 use Rattle.kr_world.specs.Sound.{IsSound}
-use Rattle.kr_world.proofs.HandlerLemmas.{all_of}
+use Rattle.kr_world.proofs.ListFacts.{all_of}
 use Rattle.kr_world.proofs.SoundLemmas.{worlds_sound}
 use Rattle.cluster_sim.specs.declared.parts.Parts.{Parts}
-use Rattle.cluster_sim.specs.Parts.{history_of, world_of, IsWhole}
+use Rattle.kr_order.specs.declared.history.Entry.{Entry}
+use Rattle.kr_order.specs.declared.message.Packet.{Packet}
+use Rattle.cluster_sim.specs.Parts.{history_of, world_of, IsCounted, IsWhole}
 
 numbers_to-next : (n : ℕ) → numbers_to (n + 1) ≡ numbers_to n ++ (n + 1) ∷ []
 numbers_to-next n = let same : n + 1 ≡ suc n = omega arith in ap numbers_to same
@@ -27,8 +30,8 @@ one_more f n xs is =
 abbrev new_servers : ℕ → List ServerStanding
 new_servers n = map (λ m. record { server = founder (first_view n) (record { 0 = m }); failed = false }) (numbers_to n)
 
-abbrev new_callers : ℕ → List ClientStanding
-new_callers n = map (λ m. record { client = new_client (record { 0 = m }); failed = false }) (numbers_to n)
+abbrev new_callers : ℕ → ℕ → List ClientStanding
+new_callers servers n = map (λ m. record { client = new_client (first_view servers) (record { 0 = m }); failed = false }) (numbers_to n)
 
 -- what is made of each, item by item
 map_map : {X Y Z : Type 0} (f : Y → Z) (g : X → Y) (xs : List X) → map f (map g xs) ≡ map (λ x. f (g x)) xs
@@ -36,18 +39,35 @@ map_map f g [] = refl
 map_map f g (x ∷ xs) = ap (λ ys. f (g x) ∷ ys) (map_map f g xs)
 
 -- the parts of a cluster before its first step
-pub started : (servers clients : ℕ) (parts : Parts) → parts.views ≡ first_view servers ∷ [] → parts.servers.items ≡ new_servers servers → parts.clients.items ≡ new_callers clients → parts.bag ≡ [] → parts.journal ≡ [] → world_of parts ≡ first_world servers clients
-started servers clients parts views nodes callers bag journal =
-    let f : List View → List Server → List Client → World = λ vs ss cs. record { views = vs; servers = ss; clients = cs; bag = []; history = [] } in
-    let ss : map (λ (s : ServerStanding). s.server) parts.servers.items ≡ map (λ m. founder (first_view servers) (record { 0 = m })) (numbers_to servers) = ap (map (λ (s : ServerStanding). s.server)) nodes ∙ map_map (λ (s : ServerStanding). s.server) (λ m. record { server = founder (first_view servers) (record { 0 = m }); failed = false }) (numbers_to servers) in
-    let cs : map (λ (c : ClientStanding). c.client) parts.clients.items ≡ map (λ m. new_client (record { 0 = m })) (numbers_to clients) = ap (map (λ (c : ClientStanding). c.client)) callers ∙ map_map (λ (c : ClientStanding). c.client) (λ m. record { client = new_client (record { 0 = m }); failed = false }) (numbers_to clients) in
-    ap (λ b. record (world_of parts) { bag = b }) bag ∙ ap (λ j. record { views = parts.views; servers = map (λ (s : ServerStanding). s.server) parts.servers.items; clients = map (λ (c : ClientStanding). c.client) parts.clients.items; bag = []; history = history_of j }) journal ∙ ap (λ vs. f vs (map (λ (s : ServerStanding). s.server) parts.servers.items) (map (λ (c : ClientStanding). c.client) parts.clients.items)) views ∙ ap (λ ss. f (first_view servers ∷ []) ss (map (λ (c : ClientStanding). c.client) parts.clients.items)) ss ∙ ap (f (first_view servers ∷ []) (map (λ m. founder (first_view servers) (record { 0 = m })) (numbers_to servers))) cs
+pub record IsStart (servers clients : ℕ) (parts : Parts) : Type 0 where
+  pub views : parts.views ≡ first_view servers ∷ []
+  pub nodes : parts.servers.items ≡ new_servers servers
+  pub callers : parts.clients.items ≡ new_callers servers clients
+  pub packets : parts.bag.packets ≡ []
+  pub lost : parts.bag.lost.items ≡ []
+  pub delivered : parts.bag.delivered.items ≡ []
+  pub journal : parts.journal ≡ []
 
-pub started_whole : (servers clients : ℕ) (parts : Parts) → 1 ≤ servers → parts.views ≡ first_view servers ∷ [] → parts.servers.items ≡ new_servers servers → parts.clients.items ≡ new_callers clients → parts.bag ≡ [] → parts.journal ≡ [] → IsWhole parts
-started_whole servers clients parts some views nodes callers bag journal =
+pub started : (servers clients : ℕ) (parts : Parts) → IsStart servers clients parts → world_of parts ≡ first_world servers clients
+started servers clients parts start =
+    let views = start.views in
+    let packets = start.packets in
+    let lost = start.lost in
+    let delivered = start.delivered in
+    let journal : history_of parts.journal ≡ [] = ap history_of start.journal in
+    let ss : map (λ (s : ServerStanding). s.server) parts.servers.items ≡ map (λ m. founder (first_view servers) (record { 0 = m })) (numbers_to servers) = ap (map (λ (s : ServerStanding). s.server)) start.nodes ∙ map_map (λ (s : ServerStanding). s.server) (λ m. record { server = founder (first_view servers) (record { 0 = m }); failed = false }) (numbers_to servers) in
+    let cs : map (λ (c : ClientStanding). c.client) parts.clients.items ≡ map (λ m. new_client (first_view servers) (record { 0 = m })) (numbers_to clients) = ap (map (λ (c : ClientStanding). c.client)) start.callers ∙ map_map (λ (c : ClientStanding). c.client) (λ m. record { client = new_client (first_view servers) (record { 0 = m }); failed = false }) (numbers_to clients) in
+    let w = first_world servers clients in
+    let f : List View → List Server → List Client → World = λ vs ns cs. record (world_of parts) { views = vs; servers = ns; clients = cs } in
+    let g : List Packet → List Bool → List Bool → List Entry → World = λ ps ls ds h. record w { bag = ps; lost = ls; delivered = ds; history = h } in
+    ap (λ vs. f vs (world_of parts).servers (world_of parts).clients) views ∙ ap (λ ns. f w.views ns (world_of parts).clients) ss ∙ ap (f w.views w.servers) cs ∙ ap (λ ps. g ps (world_of parts).lost (world_of parts).delivered (world_of parts).history) packets ∙ ap (λ ls. g [] ls (world_of parts).delivered (world_of parts).history) lost ∙ ap (λ ds. g [] [] ds (world_of parts).history) delivered ∙ ap (g [] [] []) journal
+
+pub started_whole : (servers clients : ℕ) (parts : Parts) → 1 ≤ servers → IsCounted parts.bag → IsStart servers clients parts → IsWhole parts
+started_whole servers clients parts some counted start =
     record {
-      servers = subst (All (λ s. s.failed ≡ false)) (sym nodes) (All-map (λ (s : ServerStanding). s.failed ≡ false) (λ m. record { server = founder (first_view servers) (record { 0 = m }); failed = false }) (numbers_to servers) (all_of (λ m. false ≡ false) (λ m. refl) (numbers_to servers)));
-      clients = subst (All (λ c. c.failed ≡ false)) (sym callers) (All-map (λ (c : ClientStanding). c.failed ≡ false) (λ m. record { client = new_client (record { 0 = m }); failed = false }) (numbers_to clients) (all_of (λ m. false ≡ false) (λ m. refl) (numbers_to clients)));
-      journal = journal ∙ ap (λ j. done_of (history_of j)) (sym journal);
-      sound = subst IsSound (sym (started servers clients parts views nodes callers bag journal)) (worlds_sound.first servers clients some);
+      servers = subst (All (λ s. s.failed ≡ false)) (sym start.nodes) (All-map (λ (s : ServerStanding). s.failed ≡ false) (λ m. record { server = founder (first_view servers) (record { 0 = m }); failed = false }) (numbers_to servers) (all_of (λ m. false ≡ false) (λ m. refl) (numbers_to servers)));
+      clients = subst (All (λ c. c.failed ≡ false)) (sym start.callers) (All-map (λ (c : ClientStanding). c.failed ≡ false) (λ m. record { client = new_client (first_view servers) (record { 0 = m }); failed = false }) (numbers_to clients) (all_of (λ m. false ≡ false) (λ m. refl) (numbers_to clients)));
+      journal = start.journal ∙ ap (λ j. done_of (history_of j)) (sym start.journal);
+      counted = counted;
+      sound = subst IsSound (sym (started servers clients parts start)) (worlds_sound.first servers clients some);
     }

@@ -5,13 +5,13 @@ ghost use Rattle.kr_order.specs.Done.{done_of};
 ghost use Rattle.script_lang.specs.Script.{IsSize};
 ghost use Rattle.kr_world.specs.World.{first_world};
 ghost use Rattle.kr_world.specs.Lines.{end_lines};
-ghost use Rattle.cluster_sim.specs.Steps.{Steps};
+ghost use Rattle.cluster_sim.specs.Steps.{Steps, StepsOnto};
 
-use crate::lines::{Lines, end_lines, step_lines};
-use crate::parts::Parts;
+use crate::lines::{Lines, end_lines, put_step};
+use crate::parts::{Bag, Parts};
 use crate::start::{callers, first_view, founders};
 use crate::step::step;
-use kr_order::{DoneList, Listed, NoMemory, Packets};
+use kr_order::{DoneList, Listed, NoMemory};
 use script_lang::Event;
 use std::alloc::Global;
 use std::marker::Model;
@@ -27,9 +27,9 @@ pub struct Cluster {
 
 impl Model for Cluster {
     ghost use Rattle.std.specs.Prelude.{◌≡◌, false};
-    ghost use Rattle.cluster_sim.specs.Standing.{Standing};
+    ghost use Rattle.cluster_sim.specs.ClusterStanding.{ClusterStanding};
 
-    ghost Value = { Standing };
+    ghost Value = { ClusterStanding };
 
     ghost use Rattle.cluster_sim.specs.Parts.{world_of, IsWhole};
 
@@ -47,7 +47,7 @@ impl Cluster {
     {
         let view = first_view(alloc, servers)?;
         let nodes = founders(alloc, &view, servers)?;
-        let callers = callers(alloc, clients)?;
+        let callers = callers(alloc, &view, clients)?;
         let mut views = Listed::new(alloc);
         views.push(view)?;
         Ok(Cluster {
@@ -56,11 +56,33 @@ impl Cluster {
                 views,
                 servers: nodes,
                 clients: callers,
-                bag: Packets::new(alloc),
+                bag: Bag::new(alloc),
                 journal: DoneList::new(alloc),
             },
             failed: false,
         })
+    }
+
+    /// Does one step, and puts its lines behind those that are there. A step that is refused changes nothing, and
+    /// puts a line that says why. After `NoMemory` the cluster has failed, and of the lines nothing is said.
+    pub fn step_onto<R: Threads + Sync>(
+        &mut self,
+        rt: &R,
+        event: &Event,
+        lines: &mut Vec<u8>,
+    ) -> Result<(), NoMemory>
+        ensures { StepsOnto self.old event.now lines.old.items result self.new lines.new.items }
+    {
+        if self.failed {
+            return Err(NoMemory);
+        }
+        self.failed = true;
+        let entries = self.parts.journal.len();
+        let sent = self.parts.bag.packets.len();
+        let noted = step(rt, self.alloc, &mut self.parts, event)?;
+        put_step(lines, entries, sent, &self.parts, &noted)?;
+        self.failed = false;
+        Ok(())
     }
 
     /// Does one step, and answers its lines. A step that is refused changes nothing and answers a line that
@@ -68,16 +90,9 @@ impl Cluster {
     pub fn step<R: Threads + Sync>(&mut self, rt: &R, event: &Event) -> Result<Lines, NoMemory>
         ensures { Steps self.old event.now result self.new }
     {
-        if self.failed {
-            return Err(NoMemory);
-        }
-        self.failed = true;
-        let entries = self.parts.journal.len();
-        let sent = self.parts.bag.len();
-        let noted = step(rt, self.alloc, &mut self.parts, event)?;
-        let lines = step_lines(self.alloc, entries, sent, &self.parts, &noted)?;
-        self.failed = false;
-        Ok(lines)
+        let mut lines = Vec::new(self.alloc);
+        self.step_onto(rt, event, &mut lines)?;
+        Ok(Lines::from_vec(lines))
     }
 
     /// The lines of the whole history, at the end of a run. It changes nothing.

@@ -8,6 +8,7 @@
 mod cluster;
 mod lines;
 mod parts;
+mod refusals;
 mod start;
 mod step;
 

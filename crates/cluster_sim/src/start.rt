@@ -1,7 +1,8 @@
 //! The nodes that a cluster begins with.
 
 ghost use Rattle.std.specs.Prelude.{◌≡◌, map, false, IfOk};
-ghost use Rattle.kr_order.specs.View.{numbers_to, first_view};
+ghost use Rattle.kr_order.specs.View.{first_view};
+ghost use Rattle.kr_order.specs.Numbers.{numbers_to};
 ghost use Rattle.kr_protocol.specs.Server.{founder};
 ghost use Rattle.kr_protocol.specs.Client.{new_client};
 
@@ -42,13 +43,14 @@ pub fn founders(
     Ok(nodes)
 }
 
-/// So many clients that have begun nothing.
-pub fn callers(alloc: Global, clients: u32) -> Result<Vec<Client>, NoMemory>
-    ensures { IfOk result (λ nodes. nodes.items ≡ map (λ n. record { client = new_client (record { 0 = n }); failed = false }) (numbers_to clients)) }
+/// So many clients that have begun nothing, and know the view.
+pub fn callers(alloc: Global, view: &View, clients: u32) -> Result<Vec<Client>, NoMemory>
+    ensures { IfOk result (λ nodes. nodes.items ≡ map (λ n. record { client = new_client view.now (record { 0 = n }); failed = false }) (numbers_to clients)) }
 {
     let mut nodes = Vec::new(alloc);
     for i in 0..clients {
-        nodes.push(Client::new(alloc, ClientId(i + 1)))?;
+        let known = view.copy(alloc)?;
+        nodes.push(Client::new(alloc, ClientId(i + 1), known)?)?;
     }
     Ok(nodes)
 }

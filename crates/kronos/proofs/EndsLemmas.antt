@@ -1,33 +1,49 @@
 -- How the ends of the program follow from those of its parts, and that a served call is done.
-use Rattle.std.proofs.Common.{◌≡◌, ℕ, ◌+◌, ◌<◌, ◌≤◌, ◌⊎◌, inl, inr, List, [], ◌∷◌, ◌++◌, length, refl, sym, ap, ◌∙◌, subst, arith}
-use Rattle.std.specs.Prelude.{Option, None, Some}
-use Rattle.std.specs.Io.KnownBytes.{Consumes, Appends, Keeps, IsAtEnd}
+use Rattle.std.proofs.Common.{◌≡◌, ℕ, ◌≤◌, ◌⊎◌, inl, inr, List, ◌++◌, length, refl, ap, ◌∙◌, subst, arith}
+use Rattle.std.specs.Prelude.{Option, None, Some, Result, Ok, Err}
+use Rattle.std.specs.Io.KnownBytes.{Consumes, IsAtEnd}
 use Rattle.std.proofs.lemmas.List.{length-append, append-nil}
-use Rattle.kr_text.specs.Causes.{Rose}
-use Rattle.kr_text.specs.Reads.{GaveAll, GaveSome, GaveTooMany}
-use Rattle.script_lang.specs.declared.script.Script.{Script}
-use Rattle.script_lang.specs.Script.{Parses, IsBadLine}
+use Rattle.kr_text.specs.Reads.{GaveAll, GaveSome}
+use Rattle.script_lang.specs.Script.{Parses}
 use Rattle.script_lang.specs.Laws.{BadLinesAreInNoScript}
 use Rattle.kronos.specs.declared.exit.Exit.{Exit}
 use Rattle.kronos.specs.declared.exit.Exit.TheVariants.{Done, Usage, BadLine, TooLong, ReadFault, WriteFault, NoMemory}
-use Rattle.kronos.specs.Ends.{IsForm, Ends, EndsOnBytes, HasRun, IsNoForm, HasBadLine, IsTooLong, FailedToRead, FailedToWrite, LacksMemory, IsServed, input_limit}
+use Rattle.kronos.specs.declared.run.Stop.{Stop}
+use Rattle.kronos.specs.declared.run.Stop.TheVariants.{Write, Memory}
+use Rattle.kronos.specs.Ends.{Outside, HasRead, Ends, EndsOnBytes, IsRefusalOf, HasBadLine, IsTooLong, IsServed, input_limit}
+use Rattle.kronos.specs.Runs.{IsWritten, exit_after}
 
 some_of_all : (left left' : Option (List ℕ)) (bytes : List ℕ) → GaveAll input_limit left left' bytes → GaveSome input_limit left left'
 some_of_all left left' bytes all = record { bytes = bytes; taken = all.taken; fits = all.fits }
 
 -- an end after the whole input was read
-pub ends_on_bytes : (exit : Exit) (words : List (List ℕ)) (bytes : List ℕ) (left left' held held' : Option (List ℕ)) (reads reads' writes writes' : ℕ) → IsForm words → GaveAll input_limit left left' bytes → EndsOnBytes exit bytes held held' writes writes' → Ends exit words left left' held held' reads reads' writes writes'
-ends_on_bytes Done words bytes left left' held held' reads reads' writes writes' form all ran =
-    record { form = form; bytes = bytes; script = ran.script; whole = all; parses = ran.parses; written = ran.written; lawful = ran.lawful }
-ends_on_bytes Usage words bytes left left' held held' reads reads' writes writes' form all never = absurd never
-ends_on_bytes (BadLine n) words bytes left left' held held' reads reads' writes writes' form all refused =
-    record { form = form; bytes = bytes; whole = all; bad = refused.bad; written = refused.written }
-ends_on_bytes TooLong words bytes left left' held held' reads reads' writes writes' form all never = absurd never
-ends_on_bytes ReadFault words bytes left left' held held' reads reads' writes writes' form all never = absurd never
-ends_on_bytes WriteFault words bytes left left' held held' reads reads' writes writes' form all rose =
-    record { given = some_of_all left left' bytes all; rose = rose }
-ends_on_bytes NoMemory words bytes left left' held held' reads reads' writes writes' form all _ =
-    record { form = form; given = some_of_all left left' bytes all }
+pub ends_on_bytes : (exit : Exit) (words : List (List ℕ)) (before after : Outside) (bytes : List ℕ) → HasRead words before after bytes → EndsOnBytes exit bytes before.held after.held before.writes after.writes → Ends exit words before after
+ends_on_bytes Done words before after bytes read ran =
+    record { bytes = bytes; text = ran.0; read = read; run = ran.1; written = ran.2; calm = ran.3 }
+ends_on_bytes Usage words before after bytes read never = absurd never
+ends_on_bytes (BadLine n) words before after bytes read refused =
+    record { bytes = bytes; text = refused.0; read = read; refused = refused.1; written = refused.2; calm = refused.3 }
+ends_on_bytes TooLong words before after bytes read never = absurd never
+ends_on_bytes ReadFault words before after bytes read never = absurd never
+ends_on_bytes WriteFault words before after bytes read took =
+    inr (took.0, record { bytes = bytes; read = read; due = took.1 }, took.2)
+ends_on_bytes NoMemory words before after bytes read lacks =
+    record {
+      form = read.form;
+      given = some_of_all before.left after.left bytes read.whole;
+      calm = record { reads = read.calm; writes = lacks.0 };
+      written = elim lacks.1 [
+        | inl kept ↦ inl kept
+        | inr front ↦ inr (front.0, record { bytes = bytes; read = read; due = front.1 }, front.2)
+      ];
+    }
+
+-- what a written text says of the end: the refusal of a bad line
+pub refusal_ends : {U : Type 0} (result : Result U Stop) (n : ℕ) (bytes text : List ℕ) (held held' : Option (List ℕ)) (faults faults' : ℕ) → IsRefusalOf bytes n text → IsWritten text result held held' faults faults' → EndsOnBytes (exit_after result (BadLine n)) bytes held held' faults faults'
+refusal_ends {U} (Ok done) n bytes text held held' faults faults' refused wrote = (text, refused, wrote.0, wrote.1)
+refusal_ends {U} (Err Write) n bytes text held held' faults faults' refused took = (text, inr (n, refused), took)
+refusal_ends {U} (Err Memory) n bytes text held held' faults faults' refused took =
+    (took.1, inr (text, inr (n, refused), took.0))
 
 -- a source that is read to its end gave all that it had
 all_given : (input : List ℕ) (left' : Option (List ℕ)) (bytes : List ℕ) → Consumes (Some input) left' bytes → IsAtEnd left' → input ≡ bytes
@@ -39,27 +55,27 @@ no_more_given : (input : List ℕ) (left' : Option (List ℕ)) (bytes : List ℕ
 no_more_given input None bytes taken = absurd taken
 no_more_given input (Some rest) bytes taken = omega (arith, ap length taken, length-append bytes rest)
 
-no_bad_line : BadLinesAreInNoScript → (n : ℕ) (words : List (List ℕ)) (left left' held held' : Option (List ℕ)) (reads reads' writes writes' : ℕ) → IsServed words left reads reads' writes writes' → HasBadLine n words left left' held held' → ⊥
-no_bad_line law n words left left' held held' reads reads' writes writes' served bad =
-    let taken : Consumes (Some served.bytes) left' bad.bytes = subst (λ l. Consumes l left' bad.bytes) served.told bad.whole.taken in
-    let same : served.bytes ≡ bad.bytes = all_given served.bytes left' bad.bytes taken bad.whole.ended in
-    law bad.bytes n served.script bad.bad (subst (λ bs. Parses bs served.script) same served.parses)
+no_bad_line : BadLinesAreInNoScript → (n : ℕ) (words : List (List ℕ)) (before after : Outside) → IsServed words before after → HasBadLine n words before after → ⊥
+no_bad_line law n words before after served bad =
+    let whole = bad.read.whole in
+    let taken : Consumes (Some served.bytes) after.left bad.bytes = subst (λ l. Consumes l after.left bad.bytes) served.told whole.taken in
+    let same : served.bytes ≡ bad.bytes = all_given served.bytes after.left bad.bytes taken whole.ended in
+    law bad.bytes n served.script bad.refused.bad (subst (λ bs. Parses bs served.script) same served.parses)
 
-not_too_long : (words : List (List ℕ)) (left left' held held' : Option (List ℕ)) (reads reads' writes writes' : ℕ) → IsServed words left reads reads' writes writes' → IsTooLong words left left' held held' → ⊥
-not_too_long words left left' held held' reads reads' writes writes' served long =
-    let taken : Consumes (Some served.bytes) left' long.over.bytes = subst (λ l. Consumes l left' long.over.bytes) served.told long.over.taken in
+not_too_long : (words : List (List ℕ)) (before after : Outside) → IsServed words before after → IsTooLong words before after → ⊥
+not_too_long words before after served long =
+    let taken : Consumes (Some served.bytes) after.left long.over.bytes = subst (λ l. Consumes l after.left long.over.bytes) served.told long.over.taken in
     let fits = served.fits in
     let over = long.over.over in
-    absurd (omega (arith, no_more_given served.bytes left' long.over.bytes taken))
+    absurd (omega (arith, no_more_given served.bytes after.left long.over.bytes taken))
 
 -- a call that is served is done, or finds no memory
-pub served_is_done : BadLinesAreInNoScript → (exit : Exit) (words : List (List ℕ)) (left left' held held' : Option (List ℕ)) (reads reads' writes writes' : ℕ) → Ends exit words left left' held held' reads reads' writes writes' → IsServed words left reads reads' writes writes' → (exit ≡ Done) ⊎ (exit ≡ NoMemory)
-served_is_done law Done words left left' held held' reads reads' writes writes' ends served = inl refl
-served_is_done law Usage words left left' held held' reads reads' writes writes' ends served = absurd (ends.no_form served.form)
-served_is_done law (BadLine n) words left left' held held' reads reads' writes writes' ends served =
-    absurd (no_bad_line law n words left left' held held' reads reads' writes writes' served ends)
-served_is_done law TooLong words left left' held held' reads reads' writes writes' ends served =
-    absurd (not_too_long words left left' held held' reads reads' writes writes' served ends)
-served_is_done law ReadFault words left left' held held' reads reads' writes writes' ends served = absurd (served.read ends.rose)
-served_is_done law WriteFault words left left' held held' reads reads' writes writes' ends served = absurd (served.written ends.rose)
-served_is_done law NoMemory words left left' held held' reads reads' writes writes' ends served = inr refl
+pub served_is_done : BadLinesAreInNoScript → (exit : Exit) (words : List (List ℕ)) (before after : Outside) → Ends exit words before after → IsServed words before after → (exit ≡ Done) ⊎ (exit ≡ NoMemory)
+served_is_done law Done words before after ends served = inl refl
+served_is_done law Usage words before after ends served = absurd (ends.none.no_form served.form)
+served_is_done law (BadLine n) words before after ends served = absurd (no_bad_line law n words before after served ends)
+served_is_done law TooLong words before after ends served = absurd (not_too_long words before after served ends)
+served_is_done law ReadFault words before after ends served = absurd (served.read ends.rose)
+served_is_done law WriteFault words before after ends served =
+    elim ends [ inl usage ↦ absurd (served.written usage.1.rose) | inr due ↦ absurd (served.written due.2.rose) ]
+served_is_done law NoMemory words before after ends served = inr refl

@@ -1,31 +1,98 @@
--- A run that is part way: what was written so far, and what the rest of its text is.
-use Rattle.std.proofs.Common.{zero, suc, ◌≡◌, ℕ, ◌+◌, ◌-◌, ◌^◌, ◌<◌, ◌≤◌, min, List, [], ◌∷◌, ◌++◌, length, get_or, drop, refl, sym, ap, ◌∙◌, subst, arith, append_assoc, add-one, drop-cons, length-drop}
-use Rattle.std.specs.Prelude.{Option, Result, Ok, Err, false}
+-- A run that is part way: what was written so far, what is gathered, and what the rest of its text is.
+use Rattle.std.proofs.Common.{◌≡◌, ℕ, ◌+◌, ◌<◌, ◌≤◌, List, [], ◌∷◌, ◌++◌, length, get_or, take, drop, refl, sym, ap, ◌∙◌, subst, arith, append_assoc, add-one, drop-cons, length-drop}
+use Rattle.std.specs.Prelude.{false, codes, Option, Result, Ok, Err}
+use Rattle.std.specs.Fmt.{decimal}
 use Rattle.std.specs.Io.KnownBytes.{Appends}
 use Rattle.std.proofs.KnownBytes.{Appends-nil, Appends-trans}
-use Rattle.std.proofs.lemmas.List.{nil_from_length}
+use Rattle.std.proofs.lemmas.List.{append-nil, length-append, take_at, take-append-drop}
 use Rattle.kr_text.specs.Causes.{Rose}
+use Rattle.kr_text.specs.Writes.{TookBeforeFault}
+use Rattle.kr_order.specs.declared.history.Entry.{Entry}
+use Rattle.kr_order.specs.Done.{done_of}
 use Rattle.script_lang.specs.declared.script.Event.{Event}
 use Rattle.script_lang.specs.declared.script.Script.{Script}
+use Rattle.script_lang.specs.Line.{line}
 use Rattle.kr_world.specs.World.{World, first_world}
 use Rattle.kr_world.specs.Step.{step}
-use Rattle.kr_world.specs.Lines.{step_lines, end_lines}
-use Rattle.kr_world.specs.Run.{run_from, text_from, text_of}
-use Rattle.cluster_sim.specs.Standing.{Standing}
-use Rattle.kronos.specs.Runs.{DoesTurn, RanEvents, Runs, Finishes}
+use Rattle.kr_world.specs.Lines.{step_lines, done_lines, end_lines}
+use Rattle.kr_world.specs.Run.{Turn, run_from, text_from, text_of}
+use Rattle.cluster_sim.specs.ClusterStanding.{ClusterStanding}
+use Rattle.kronos.specs.Ends.{TookFront}
+use Rattle.kronos.specs.Runs.{text_on, DoesTurn, Turns, RanEvents, RunsEvents, IsWritten}
 use Rattle.kronos.specs.declared.run.Stop.{Stop}
 use Rattle.kronos.specs.declared.run.Stop.TheVariants.{Write, Memory}
 
--- the text that these events have from a world on
-abbrev pub text_on : World → List Event → List ℕ
-text_on world events = text_from world (run_from world events)
+-- the text in two parts: what was written and a front of the next piece, and what is to come
+cut_text : (written piece rest text : List ℕ) (n : ℕ) → text ≡ written ++ piece ++ rest → text ≡ (written ++ take n piece) ++ (drop n piece ++ rest)
+cut_text written piece rest text n is =
+    is ∙ ap (λ p. written ++ p ++ rest) (sym (take-append-drop n piece)) ∙ ap (λ t. t ++ rest) (sym (append_assoc written (take n piece) (drop n piece))) ∙ append_assoc (written ++ take n piece) (drop n piece) rest
 
--- after the first i events: this was written, the cluster stands so, and the rest of the text is to come
-pub record IsPartWay (first : Standing) (events : List Event) (i : ℕ) (cluster : Standing) (held held' : Option (List ℕ)) (faults faults' : ℕ) : Type 0 where
+-- a front of the next piece, behind what was written, is a front of the text
+record IsFrontCut (text : List ℕ) (n : ℕ) (front : List ℕ) : Type 0 where
+  short : n < length text
+  is : take n text ≡ front
+
+front_cut : (written piece rest text : List ℕ) (n : ℕ) → text ≡ written ++ piece ++ rest → n < length piece → IsFrontCut text (length (written ++ take n piece)) (written ++ take n piece)
+front_cut written piece rest text n is below =
+    let front = written ++ take n piece in
+    let cut = cut_text written piece rest text n is in
+    let whole : length text ≡ length front + length (drop n piece ++ rest) = ap length cut ∙ length-append front (drop n piece ++ rest) in
+    record {
+      short = omega (arith, whole, length-append (drop n piece) rest, length-drop n piece);
+      is = ap (take (length front)) cut ∙ take_at front (drop n piece ++ rest) (length front) refl;
+    }
+
+-- a write that failed behind what was written
+pub took_behind : (written piece rest text : List ℕ) (held mid held' : Option (List ℕ)) (faults midway faults' : ℕ) → text ≡ written ++ piece ++ rest → Appends held mid written → midway ≡ faults → TookBeforeFault piece mid held' midway faults' → TookBeforeFault text held held' faults faults'
+took_behind written piece rest text held mid held' faults midway faults' is before calm took =
+    let cut = front_cut written piece rest text took.count is took.short in
+    record {
+      count = length (written ++ take took.count piece);
+      short = cut.short;
+      taken = subst (Appends held held') (sym cut.is) (Appends-trans held mid held' written (take took.count piece) before took.taken);
+      rose = subst (λ f. Rose f faults') calm took.rose;
+    }
+
+-- a front that was written behind what was written
+pub front_behind : (written piece rest text : List ℕ) (held mid held' : Option (List ℕ)) → text ≡ written ++ piece ++ rest → Appends held mid written → TookFront piece mid held' → TookFront text held held'
+front_behind written piece rest text held mid held' is before took =
+    let cut = front_cut written piece rest text took.count is took.short in
+    record {
+      count = length (written ++ take took.count piece);
+      short = cut.short;
+      taken = subst (Appends held held') (sym cut.is) (Appends-trans held mid held' written (take took.count piece) before took.taken);
+    }
+
+-- what was written is a front where more is to come
+pub front_written : (written rest text : List ℕ) (held held' : Option (List ℕ)) → text ≡ written ++ rest → 1 ≤ length rest → Appends held held' written → TookFront text held held'
+front_written written rest text held held' is some taken =
+    record {
+      count = length written;
+      short = omega (arith, ap length is, length-append written rest);
+      taken = subst (Appends held held') (sym (ap (take (length written)) is ∙ take_at written rest (length written) refl)) taken;
+    }
+
+-- nothing was written of a text that has something
+pub front_nothing : (text : List ℕ) (held : Option (List ℕ)) → 1 ≤ length text → TookFront text held held
+front_nothing text held some = record { count = 0; short = some; taken = Appends-nil held }
+
+-- the lines of the history are never empty
+pub end_lines-some : (history : List Entry) → 1 ≤ length (end_lines history)
+end_lines-some history =
+    omega (arith, length-append (line (codes "history " ++ decimal (length history)) ++ done_lines (done_of history)) (line (codes "end")))
+
+-- so is no text
+pub text_from-some : (world : World) (turns : List Turn) → 1 ≤ length (text_from world turns)
+text_from-some world [] = end_lines-some world.history
+text_from-some world (turn ∷ turns) =
+    omega (arith, length-append (step_lines turn.before turn.outcome) (text_from turn.outcome.after turns), text_from-some turn.outcome.after turns)
+
+-- after the first i events: this was written, this is gathered, the cluster stands so, and the rest of the text is to come
+pub record IsPartWay (first : ClusterStanding) (events : List Event) (i : ℕ) (cluster : ClusterStanding) (gathered : List ℕ) (held held' : Option (List ℕ)) (faults faults' : ℕ) : Type 0 where
   pub written : List ℕ
   pub taken : Appends held held' written
-  pub rest : text_on first.world events ≡ written ++ text_on cluster.world (drop i events)
-  pub later : faults ≤ faults'
+  pub rest : text_on first.world events ≡ written ++ (gathered ++ text_on cluster.world (drop i events))
+  pub calm : faults' ≡ faults
 
 -- the text of the rest begins with the lines of the next step
 text_on-step : (events : List Event) (i : ℕ) (world : World) (d : Event) → i < length events → text_on world (drop i events) ≡ step_lines world (step world (get_or events i d)) ++ text_on (step world (get_or events i d)).after (drop (i + 1) events)
@@ -33,24 +100,71 @@ text_on-step events i world d within =
     let front : drop i events ≡ get_or events i d ∷ drop (i + 1) events = rw (add-one, drop-cons events i d) refl in
     ap (text_on world) front
 
-pub one_further : (first : Standing) (events : List Event) (i : ℕ) (old new : Standing) (d : Event) (held mid held' : Option (List ℕ)) (faults midway faults' : ℕ) → i < length events → IsPartWay first events i old held mid faults midway → DoesTurn old (get_or events i d) new mid held' → midway ≤ faults' → IsPartWay first events (i + 1) new held held' faults faults'
-one_further first events i old new d held mid held' faults midway faults' within so_far turn on =
+-- the text, where the next step's lines come behind what is gathered
+text_next : (first : ClusterStanding) (events : List Event) (i : ℕ) (old : ClusterStanding) (gathered written : List ℕ) (d : Event) → i < length events → text_on first.world events ≡ written ++ (gathered ++ text_on old.world (drop i events)) → text_on first.world events ≡ written ++ (gathered ++ step_lines old.world (step old.world (get_or events i d))) ++ text_on (step old.world (get_or events i d)).after (drop (i + 1) events)
+text_next first events i old gathered written d within is =
+    let lines = step_lines old.world (step old.world (get_or events i d)) in
+    let rest = text_on (step old.world (get_or events i d)).after (drop (i + 1) events) in
+    is ∙ ap (λ t. written ++ (gathered ++ t)) (text_on-step events i old.world d within) ∙ ap (λ t. written ++ t) (sym (append_assoc gathered lines rest)) ∙ sym (append_assoc written (gathered ++ lines) rest)
+
+-- one step further
+pub one_further : (first : ClusterStanding) (events : List Event) (i : ℕ) (old new : ClusterStanding) (gathered gathered' : List ℕ) (d : Event) (held mid held' : Option (List ℕ)) (faults midway faults' : ℕ) → i < length events → IsPartWay first events i old gathered held mid faults midway → DoesTurn old (get_or events i d) gathered new gathered' mid held' → faults' ≡ midway → IsPartWay first events (i + 1) new gathered' held held' faults faults'
+one_further first events i old new gathered gathered' d held mid held' faults midway faults' within so_far turn calm =
     let outcome = step old.world (get_or events i d) in
     let lines = step_lines old.world outcome in
-    let before = so_far.later in
-    let now : new.world ≡ outcome.after = ap (λ (c : Standing). c.world) turn.after in
+    let now : new.world ≡ outcome.after = ap (λ (c : ClusterStanding). c.world) turn.after in
+    let rest = text_on new.world (drop (i + 1) events) in
+    let next = text_next first events i old gathered so_far.written d within so_far.rest in
+    let all : text_on first.world events ≡ so_far.written ++ (gathered ++ lines) ++ rest = next ∙ ap (λ w. so_far.written ++ (gathered ++ lines) ++ text_on w (drop (i + 1) events)) (sym now) in
+    let moved : so_far.written ++ (gathered ++ lines) ++ rest ≡ (so_far.written ++ turn.written) ++ (gathered' ++ rest) = ap (λ t. so_far.written ++ t ++ rest) turn.lines ∙ ap (λ t. t ++ rest) (sym (append_assoc so_far.written turn.written gathered')) ∙ append_assoc (so_far.written ++ turn.written) gathered' rest in
     record {
-      written = so_far.written ++ lines;
-      taken = Appends-trans held mid held' so_far.written lines so_far.taken turn.written;
-      rest = so_far.rest ∙ ap (λ t. so_far.written ++ t) (text_on-step events i old.world d within ∙ ap (λ w. lines ++ text_on w (drop (i + 1) events)) (sym now)) ∙ sym (append_assoc so_far.written lines (text_on new.world (drop (i + 1) events)));
-      later = omega arith;
+      written = so_far.written ++ turn.written;
+      taken = Appends-trans held mid held' so_far.written turn.written so_far.taken turn.taken;
+      rest = all ∙ moved;
+      calm = calm ∙ so_far.calm;
     }
 
--- the run's text is written once its steps and its end are
-pub ended : {U : Type 0} (script : Script) (first last : Standing) (result : Result U Stop) (held mid held' : Option (List ℕ)) (faults midway faults' : ℕ) → first ≡ record { world = first_world script.servers script.clients; failed = false } → RanEvents first script.events last held mid → faults ≤ midway → Finishes last result mid held' midway faults' → Runs script result held held' faults faults'
-ended {U} script first last (Ok done) held mid held' faults midway faults' is ran later wrote =
-    let world : first.world ≡ first_world script.servers script.clients = ap (λ (c : Standing). c.world) is in
-    let text : text_of script ≡ ran.written ++ end_lines last.world.history = ap (λ w. text_on w script.events) (sym world) ∙ ran.text in
-    subst (λ t. Appends held held' t) (sym text) (Appends-trans held mid held' ran.written (end_lines last.world.history) ran.taken wrote)
-ended {U} script first last (Err Write) held mid held' faults midway faults' is ran later wrote = omega arith
-ended {U} script first last (Err Memory) held mid held' faults midway faults' is ran later wrote = tt
+-- a write failed at the next step
+pub fault_further : (first : ClusterStanding) (events : List Event) (i : ℕ) (old : ClusterStanding) (gathered : List ℕ) (d : Event) (held mid held' : Option (List ℕ)) (faults midway faults' : ℕ) → i < length events → IsPartWay first events i old gathered held mid faults midway → TookBeforeFault (gathered ++ step_lines old.world (step old.world (get_or events i d))) mid held' midway faults' → TookBeforeFault (text_on first.world events) held held' faults faults'
+fault_further first events i old gathered d held mid held' faults midway faults' within so_far took =
+    let outcome = step old.world (get_or events i d) in
+    took_behind so_far.written (gathered ++ step_lines old.world outcome) (text_on outcome.after (drop (i + 1) events)) (text_on first.world events) held mid held' faults midway faults' (text_next first events i old gathered so_far.written d within so_far.rest) so_far.taken so_far.calm took
+
+-- there was no memory for the next step
+pub memory_further : (first : ClusterStanding) (events : List Event) (i : ℕ) (old : ClusterStanding) (gathered : List ℕ) (held mid held' : Option (List ℕ)) (faults midway faults' : ℕ) → IsPartWay first events i old gathered held mid faults midway → held' ≡ mid → faults' ≡ midway → TookFront (text_on first.world events) held held' × (faults' ≡ faults)
+memory_further first events i old gathered held mid held' faults midway faults' so_far kept calm =
+    let rest = text_on old.world (drop i events) in
+    let some : 1 ≤ length rest = text_from-some old.world (run_from old.world (drop i events)) in
+    let more : 1 ≤ length (gathered ++ rest) = omega (arith, length-append gathered rest) in
+    (front_written so_far.written (gathered ++ rest) (text_on first.world events) held held' so_far.rest more (subst (λ h. Appends held h so_far.written) (sym kept) so_far.taken), calm ∙ so_far.calm)
+
+-- a text behind one that was written
+pub went_on : {U : Type 0} (result : Result U Stop) (first rest : List ℕ) (held mid held' : Option (List ℕ)) (faults midway faults' : ℕ) → Appends held mid first → midway ≡ faults → IsWritten rest result mid held' midway faults' → IsWritten (first ++ rest) result held held' faults faults'
+went_on {U} (Ok done) first rest held mid held' faults midway faults' before calm wrote =
+    (Appends-trans held mid held' first rest before wrote.0, wrote.1 ∙ calm)
+went_on {U} (Err Write) first rest held mid held' faults midway faults' before calm took =
+    took_behind first rest [] (first ++ rest) held mid held' faults midway faults' (sym (append-nil (first ++ rest))) before calm took
+went_on {U} (Err Memory) first rest held mid held' faults midway faults' before calm took =
+    (front_behind first rest [] (first ++ rest) held mid held' (sym (append-nil (first ++ rest))) before took.0, took.1 ∙ calm)
+
+-- the text of a script's run is never empty
+pub text_of-some : (script : Script) → 1 ≤ length (text_of script)
+text_of-some script = text_from-some (first_world script.servers script.clients) (run_from (first_world script.servers script.clients) script.events)
+
+-- the text of a cluster that begins is that of the run
+text_of_first : (script : Script) (first : ClusterStanding) → first ≡ record { world = first_world script.servers script.clients; failed = false } → text_on first.world script.events ≡ text_of script
+text_of_first script first is = ap (λ (c : ClusterStanding). text_on c.world script.events) is
+
+-- a step was not done, or its lines not written
+pub step_stopped : (U V : Type 0) (stop : Stop) (first : ClusterStanding) (events : List Event) (i : ℕ) (old new : ClusterStanding) (gathered gathered' : List ℕ) (event : Event) (held mid held' : Option (List ℕ)) (faults midway faults' : ℕ) → i < length events → event ≡ get_or events i event → IsPartWay first events i old gathered held mid faults midway → Turns {U = U} old event gathered (Err stop) new gathered' mid held' midway faults' → RunsEvents {U = V} first events (Err stop) new gathered' held held' faults faults'
+step_stopped U V Write first events i old new gathered gathered' event held mid held' faults midway faults' within is so_far took =
+    fault_further first events i old gathered event held mid held' faults midway faults' within so_far (subst (λ e. TookBeforeFault (gathered ++ step_lines old.world (step old.world e)) mid held' midway faults') is took)
+step_stopped U V Memory first events i old new gathered gathered' event held mid held' faults midway faults' within is so_far kept =
+    memory_further first events i old gathered held mid held' faults midway faults' so_far kept.0 kept.1
+
+-- how the end of a run follows from its steps and its last lines
+pub ended : {U : Type 0} (script : Script) (first last : ClusterStanding) (result : Result U Stop) (gathered : List ℕ) (held mid held' : Option (List ℕ)) (faults midway faults' : ℕ) → first ≡ record { world = first_world script.servers script.clients; failed = false } → RanEvents first script.events last gathered held mid → midway ≡ faults → IsWritten (gathered ++ end_lines last.world.history) result mid held' midway faults' → IsWritten (text_of script) result held held' faults faults'
+ended {U} script first last result gathered held mid held' faults midway faults' is ran calm wrote =
+    let ending = end_lines last.world.history in
+    let text : text_of script ≡ ran.written ++ (gathered ++ ending) = sym (text_of_first script first is) ∙ ran.text ∙ append_assoc ran.written gathered ending in
+    subst (λ t. IsWritten t result held held' faults faults') (sym text) (went_on result ran.written (gathered ++ ending) held mid held' faults midway faults' ran.taken calm wrote)

@@ -19,19 +19,30 @@ use std::process::ExitCode;
 use std::rc::RcStr;
 use std::{env, io};
 
-// The words after the program's name. Arguments that are not UTF-8 are a faulty command line.
+// The words after the program's name. Arguments that are not UTF-8 are words that are no form: none is taken then.
 fn words(rt: &(impl Env + AllocGlobal)) -> Result<Vec<RcStr>, Exit> {
     let alloc = rt.alloc();
     let args = match env::args(rt) {
         Ok(args) => args,
         Err(error) if error.kind() == io::ErrorKind::OutOfMemory => return Err(Exit::NoMemory),
-        Err(_) => return Err(Exit::Usage),
+        Err(_) => return Ok(Vec::new(alloc)),
     };
     let mut words = Vec::new(alloc);
     for arg in args.skip(1) {
         words.push(RcStr::from_string(arg)?)?;
     }
     Ok(words)
+}
+
+// What is said on the error stream of an end that the output does not tell.
+fn complaint(exit: Exit) -> Option<&'static str> {
+    match exit {
+        Exit::TooLong => Some("the input has more than 1,048,576 bytes"),
+        Exit::ReadFault => Some("the input could not be read"),
+        Exit::WriteFault => Some("the output could not be written"),
+        Exit::NoMemory => Some("out of memory"),
+        Exit::Done | Exit::Usage | Exit::BadLine(_) => None,
+    }
 }
 
 fn main(rt: HostRuntime) -> ExitCode {
@@ -41,5 +52,8 @@ fn main(rt: HostRuntime) -> ExitCode {
         Ok(words) => kronos_script(&rt, rt.alloc(), &words, &mut source, &mut sink),
         Err(exit) => exit,
     };
+    if let Some(text) = complaint(exit) {
+        let _ = eprintln!(rt; "kronos: {text}");
+    }
     ExitCode::from(exit.status())
 }

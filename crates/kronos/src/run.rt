@@ -1,8 +1,10 @@
 //! A script's run, written step by step.
 
-ghost use Rattle.std.specs.Prelude.{◌≡◌, ◌≤◌};
+ghost use Rattle.std.specs.Prelude.{◌≡◌, ◌++◌, []};
 ghost use Rattle.script_lang.specs.Script.{IsScript};
-ghost use Rattle.kronos.specs.Runs.{Runs, RunsEvents, Turns, Finishes};
+ghost use Rattle.kr_world.specs.Lines.{end_lines};
+ghost use Rattle.kr_world.specs.Run.{text_of};
+ghost use Rattle.kronos.specs.Runs.{IsWritten, RunsEvents, Turns};
 
 use cluster_sim::Cluster;
 use kr_order::NoMemory;
@@ -53,7 +55,10 @@ impl From<NoMemory> for Stop {
     }
 }
 
-/// Runs the script, and writes its text: the lines of each step, and then those of the history.
+// So many bytes are gathered before they are written.
+const PIECE: usize = 65_536;
+
+/// Runs the script, and writes its text: the lines of each step, gathered into pieces, and then those of the history.
 pub fn run<R: Threads + Sync, K: Sink>(
     rt: &R,
     alloc: Global,
@@ -61,49 +66,90 @@ pub fn run<R: Threads + Sync, K: Sink>(
     sink: &mut K,
 ) -> Result<(), Stop>
     requires { IsScript script.now }
-    ensures { Runs script.now result (K.held sink.old) (K.held sink.new) (K.faults sink.old) (K.faults sink.new) }
+    ensures { IsWritten (text_of script.now) result (K.held sink.old) (K.held sink.new) (K.faults sink.old) (K.faults sink.new) }
 {
-    let mut cluster = Cluster::new(alloc, script.servers, script.clients)?;
-    run_events(rt, &mut cluster, script.events.as_slice(), sink)?;
-    finish(&cluster, sink)
+    let mut cluster = match Cluster::new(alloc, script.servers, script.clients) {
+        Ok(cluster) => cluster,
+        Err(_) => return Err(Stop::Memory),
+    };
+    let mut gathered = Vec::new(alloc);
+    match run_events(
+        rt,
+        &mut cluster,
+        script.events.as_slice(),
+        &mut gathered,
+        sink,
+    ) {
+        Ok(()) => finish(&cluster, gathered.as_slice(), sink),
+        Err(stop) => Err(stop),
+    }
 }
 
-// Does the steps of the events, one after the other, and writes their lines.
+// Does the steps of the events, one after the other, and gathers and writes their lines.
 fn run_events<R: Threads + Sync, K: Sink>(
     rt: &R,
     cluster: &mut Cluster,
     events: &[Event],
+    gathered: &mut Vec<u8>,
     sink: &mut K,
 ) -> Result<(), Stop>
-    ensures later { K.faults sink.old ≤ K.faults sink.new }
-    ensures ran { RunsEvents cluster.old events.now result cluster.new (K.held sink.old) (K.held sink.new) (K.faults sink.old) (K.faults sink.new) }
+    requires { gathered.old.items ≡ [] }
+    ensures { RunsEvents cluster.old events.now result cluster.new gathered.new.items (K.held sink.old) (K.held sink.new) (K.faults sink.old) (K.faults sink.new) }
 {
     for event in events {
-        turn(rt, cluster, event, sink)?;
+        match turn(rt, cluster, event, gathered, sink) {
+            Ok(()) => {}
+            Err(stop) => return Err(stop),
+        }
     }
     Ok(())
 }
 
-// Does one step and writes its lines.
+// Does one step and gathers its lines; where there are enough for a piece, they are written.
 fn turn<R: Threads + Sync, K: Sink>(
     rt: &R,
     cluster: &mut Cluster,
     event: &Event,
+    gathered: &mut Vec<u8>,
     sink: &mut K,
 ) -> Result<(), Stop>
-    ensures later { K.faults sink.old ≤ K.faults sink.new }
-    ensures turns { Turns cluster.old event.now result cluster.new (K.held sink.old) (K.held sink.new) (K.faults sink.old) (K.faults sink.new) }
+    ensures { Turns cluster.old event.now gathered.old.items result cluster.new gathered.new.items (K.held sink.old) (K.held sink.new) (K.faults sink.old) (K.faults sink.new) }
 {
-    let lines = cluster.step(rt, event)?;
-    write_all(sink, lines.as_slice())?;
+    cluster.step_onto(rt, event, gathered)?;
+    if gathered.len() < PIECE {
+        return Ok(());
+    }
+    write_all(sink, gathered.as_slice())?;
+    gathered.clear();
     Ok(())
 }
 
-// Writes the lines of the history.
-fn finish<K: Sink>(cluster: &Cluster, sink: &mut K) -> Result<(), Stop>
-    ensures { Finishes cluster.now result (K.held sink.old) (K.held sink.new) (K.faults sink.old) (K.faults sink.new) }
+// Writes the lines that are gathered, and then those of the history.
+fn finish<K: Sink>(cluster: &Cluster, gathered: &[u8], sink: &mut K) -> Result<(), Stop>
+    ensures { IsWritten (gathered.now ++ end_lines cluster.now.world.history) result (K.held sink.old) (K.held sink.new) (K.faults sink.old) (K.faults sink.new) }
 {
-    let ending = cluster.finish()?;
-    write_all(sink, ending.as_slice())?;
-    Ok(())
+    match write(sink, gathered) {
+        Ok(()) => write_history(cluster, sink),
+        Err(stop) => Err(stop),
+    }
+}
+
+// Writes the lines of the history.
+fn write_history<K: Sink>(cluster: &Cluster, sink: &mut K) -> Result<(), Stop>
+    ensures { IsWritten (end_lines cluster.now.world.history) result (K.held sink.old) (K.held sink.new) (K.faults sink.old) (K.faults sink.new) }
+{
+    match cluster.finish() {
+        Ok(ending) => write(sink, ending.as_slice()),
+        Err(_) => Err(Stop::Memory),
+    }
+}
+
+// Writes the text.
+fn write<K: Sink>(sink: &mut K, text: &[u8]) -> Result<(), Stop>
+    ensures { IsWritten text.now result (K.held sink.old) (K.held sink.new) (K.faults sink.old) (K.faults sink.new) }
+{
+    match write_all(sink, text) {
+        Ok(()) => Ok(()),
+        Err(WriteStop::Fault) => Err(Stop::Write),
+    }
 }

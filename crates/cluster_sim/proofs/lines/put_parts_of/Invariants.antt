@@ -1,9 +1,8 @@
 use Rattle.std.proofs.Common.{◌≡◌, ◌++◌, take}
-use Rattle.std.specs.Prelude.{string_bytes}
 use Rattle.kr_world.specs.Lines.{part_lines}
 use Rattle.kr_world.specs.Step.{parts_to}
 use Rattle.cluster_sim.proofs.lines.put_parts_of.Given as goal
 
 abbrev pub invariant-loop-part : goal.invariant-loop-part
 invariant-loop-part l =
-    string_bytes l.out ≡ string_bytes l.initial.out ++ part_lines (parts_to l.client (take l.part-index l.parts))
+    l.out.items ≡ l.initial.out.items ++ part_lines (parts_to l.client (take l.part-index l.parts))

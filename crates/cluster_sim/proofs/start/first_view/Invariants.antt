@@ -1,5 +1,5 @@
 use Rattle.std.proofs.Common.{◌≡◌, map}
-use Rattle.kr_order.specs.View.{numbers_to}
+use Rattle.kr_order.specs.Numbers.{numbers_to}
 use Rattle.cluster_sim.proofs.start.first_view.Given as goal
 
 abbrev pub invariant-loop-i : goal.invariant-loop-i

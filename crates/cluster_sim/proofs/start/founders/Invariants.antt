@@ -1,5 +1,5 @@
 use Rattle.std.proofs.Common.{◌≡◌, map, false}
-use Rattle.kr_order.specs.View.{numbers_to}
+use Rattle.kr_order.specs.Numbers.{numbers_to}
 use Rattle.kr_protocol.specs.Server.{founder}
 use Rattle.cluster_sim.proofs.start.founders.Given as goal
 

@@ -1,11 +1,19 @@
-use Rattle.std.proofs.Common.{subst}
-use Rattle.kronos.specs.Runs.{RanEvents}
-use Rattle.kronos.proofs.RunLemmas.{ended}
+use Rattle.std.proofs.Common.{◌++◌, subst, refl}
+use Rattle.kr_world.specs.Lines.{end_lines}
+use Rattle.kr_world.specs.Run.{text_of}
+use Rattle.kronos.specs.Runs.{RanEvents, IsWritten}
+use Rattle.kronos.proofs.RunLemmas.{text_of-some, front_nothing, ended}
 use Rattle.kronos.proofs.run.run.Goals as goal
 
-pub returns : goal.returns
-returns g c =
+pub returns-in-Err : goal.returns-in-Err
+returns-in-Err g c = (front_nothing (text_of c.args.script.now) (g.K.Sink.held c.args.sink.now) (text_of-some c.args.script.now), refl)
+
+pub returns-in-Ok-run_events : goal.returns-in-Ok-run_events
+returns-in-Ok-run_events g c =
     let held = g.K.Sink.held in
     let faults = g.K.Sink.faults in
-    let ran = subst (λ events. RanEvents c.in_ok-cluster.cluster events c.run_events.new.cluster (held c.args.sink.now) (held c.run_events.new.sink)) c.as_slice.ensures c.in_ok-run_events.ensures.ran in
-    ended c.args.script.now c.in_ok-cluster.cluster c.run_events.new.cluster c.finish.result (held c.args.sink.now) (held c.run_events.new.sink) (held c.finish.new.sink) (faults c.args.sink.now) (faults c.run_events.new.sink) (faults c.finish.new.sink) c.in_ok-cluster.ensures ran c.in_ok-run_events.ensures.later c.finish.ensures
+    let last = c.run_events.new.cluster in
+    let gathered = c.run_events.new.gathered.items in
+    let ran = subst (λ events. RanEvents c.in-Ok.cluster events last gathered (held c.args.sink.now) (held c.run_events.new.sink)) c.as_slice.ensures c.in-Ok-run_events.ensures.0 in
+    let wrote = subst (λ front. IsWritten (front ++ end_lines last.world.history) c.finish.result (held c.run_events.new.sink) (held c.finish.new.sink) (faults c.run_events.new.sink) (faults c.finish.new.sink)) c.as_slice-in-Ok-run_events.ensures.value c.finish.ensures in
+    ended c.args.script.now c.in-Ok.cluster last c.finish.result gathered (held c.args.sink.now) (held c.run_events.new.sink) (held c.finish.new.sink) (faults c.args.sink.now) (faults c.run_events.new.sink) (faults c.finish.new.sink) c.in-Ok.ensures ran c.in-Ok-run_events.ensures.1 wrote

@@ -1,0 +1,76 @@
+//! What clients do: commands, queries, and both tried again.
+
+ghost use Rattle.std.specs.Prelude.{◌≡◌, IfOk, None};
+ghost use Rattle.kr_world.specs.World.{client_at, server_at};
+ghost use Rattle.kr_world.specs.Step.{call_refusal, query_refusal, retry_refusal, client_calls, client_asks, client_retries};
+ghost use Rattle.cluster_sim.specs.Parts.{world_of, IsWhole, Makes};
+
+use crate::parts::{Noted, Parts};
+use crate::refusals::index_of;
+use client_session::{CallStop, RetryStop};
+use kr_order::{Asked, ClientId, Command, Copied, NoMemory, ServerId};
+use std::alloc::Global;
+
+/// The client begins the command, and its request is put into the bag.
+pub fn call(
+    alloc: Global,
+    parts: &mut Parts,
+    client: ClientId,
+    command: &Command,
+) -> Result<Noted, NoMemory>
+    requires whole { IsWhole parts.old }
+    requires free { call_refusal (world_of parts.old) (client_at (world_of parts.old) client) ≡ None }
+    ensures { IfOk result (Makes (client_calls (world_of parts.old) client command.now (client_at (world_of parts.old) client)) parts.new) }
+{
+    let i = index_of(u64::from(client.0));
+    let command = command.copy(alloc)?;
+    let node = &mut parts.clients[i];
+    match node.begin(command) {
+        Ok(packet) => {
+            parts.bag.send(packet)?;
+            Ok(Noted::nothing())
+        }
+        Err(CallStop::Busy) => unreachable!(),
+        Err(CallStop::NoMemory) => Err(NoMemory),
+    }
+}
+
+/// The client asks the server, and its question is put into the bag.
+pub fn ask(
+    parts: &mut Parts,
+    client: ClientId,
+    server: ServerId,
+    pairs: &Asked,
+) -> Result<Noted, NoMemory>
+    requires whole { IsWhole parts.old }
+    requires free { query_refusal (world_of parts.old) (client_at (world_of parts.old) client) (server_at (world_of parts.old) server) ≡ None }
+    ensures { IfOk result (Makes (client_asks (world_of parts.old) client server pairs.now (client_at (world_of parts.old) client)) parts.new) }
+{
+    let i = index_of(u64::from(client.0));
+    let node = &mut parts.clients[i];
+    match node.ask(pairs, server) {
+        Ok(packet) => {
+            parts.bag.send(packet)?;
+            Ok(Noted::nothing())
+        }
+        Err(CallStop::Busy) => unreachable!(),
+        Err(CallStop::NoMemory) => Err(NoMemory),
+    }
+}
+
+/// The client's open call is put into the bag once more, for this server.
+pub fn retry(parts: &mut Parts, client: ClientId, server: ServerId) -> Result<Noted, NoMemory>
+    requires whole { IsWhole parts.old }
+    requires free { retry_refusal (world_of parts.old) (client_at (world_of parts.old) client) (server_at (world_of parts.old) server) ≡ None }
+    ensures { IfOk result (Makes (client_retries (world_of parts.old) server (client_at (world_of parts.old) client)) parts.new) }
+{
+    let i = index_of(u64::from(client.0));
+    match parts.clients[i].retry(server) {
+        Ok(packet) => {
+            parts.bag.send(packet)?;
+            Ok(Noted::nothing())
+        }
+        Err(RetryStop::NothingOpen) => unreachable!(),
+        Err(RetryStop::NoMemory) => Err(NoMemory),
+    }
+}

@@ -1,0 +1,123 @@
+//! What becomes of packets: they are delivered, or lost.
+
+ghost use Rattle.std.specs.Prelude.{◌≡◌, ◌<◌, length, slice_set, slice_get, true, IfOk, IsSome, Some};
+ghost use Rattle.kr_order.specs.declared.message.Packet.{Packet};
+ghost use Rattle.kr_world.specs.World.{client_at, server_at, packet_at};
+ghost use Rattle.kr_world.specs.Step.{told_to, arrives_at_client, arrives_at_server, delivers, loses};
+ghost use Rattle.cluster_sim.specs.Parts.{world_of, IsWhole, Makes, told_in};
+
+use crate::parts::{Bag, Noted, Parts, PartsTelling, Telling};
+use crate::refusals::index_of;
+use crate::step::turns::settle;
+use kr_order::{ClientId, NoMemory, Node, ServerId, ToldReply};
+use std::alloc::Global;
+
+// What the client is told, with its number.
+fn telling(client: ClientId, told: Option<ToldReply>) -> Option<Telling>
+    ensures { told_in result ≡ told_to client told }
+{
+    match told {
+        None => None,
+        Some(reply) => Some(Telling { client, reply }),
+    }
+}
+
+// A packet arrives at a client, which hears it.
+fn arrive_at_client(parts: &mut Parts, client: ClientId, k: usize) -> Result<Noted, NoMemory>
+    requires whole { IsWhole parts.old }
+    requires there { k < length parts.old.bag.packets }
+    ensures { (packet : Packet) → slice_get parts.old.bag.packets k ≡ Some packet → IfOk result (Makes (arrives_at_client (world_of parts.old) client packet (client_at (world_of parts.old) client)) parts.new) }
+{
+    let i = index_of(u64::from(client.0));
+    if i >= parts.clients.len() {
+        return Ok(Noted::nothing());
+    }
+    let Some(packet) = parts.bag.packets.get(k) else {
+        return Ok(Noted::nothing());
+    };
+    let heard = parts.clients[i].take(packet)?;
+    Ok(Noted {
+        told: telling(client, heard.told),
+        parts: Some(PartsTelling {
+            client,
+            parts: heard.parts,
+        }),
+        shown: None,
+        refused: None,
+    })
+}
+
+// A packet arrives at a server, which reacts to it.
+fn arrive_at_server(
+    alloc: Global,
+    parts: &mut Parts,
+    server: ServerId,
+    k: usize,
+) -> Result<Noted, NoMemory>
+    requires whole { IsWhole parts.old }
+    requires there { k < length parts.old.bag.packets }
+    ensures { (packet : Packet) → slice_get parts.old.bag.packets k ≡ Some packet → IfOk result (Makes (arrives_at_server (world_of parts.old) server packet (server_at (world_of parts.old) server)) parts.new) }
+{
+    let i = index_of(u64::from(server.0));
+    if i >= parts.servers.len() {
+        return Ok(Noted::nothing());
+    }
+    let Some(packet) = parts.bag.packets.get(k) else {
+        return Ok(Noted::nothing());
+    };
+    let node = &mut parts.servers[i];
+    let before = node.done();
+    let effects = node.take(packet)?;
+    settle(alloc, parts, before, effects)?;
+    Ok(Noted::nothing())
+}
+
+// Marks the packet at the index as delivered.
+fn mark_delivered(bag: &mut Bag, i: usize)
+    requires { i < length bag.old.delivered.items }
+    ensures packets { bag.new.packets ≡ bag.old.packets }
+    ensures lost { bag.new.lost ≡ bag.old.lost }
+    ensures delivered { bag.new.delivered.items ≡ slice_set bag.old.delivered.items i true }
+    ensures bytes { bag.new.bytes ≡ bag.old.bytes }
+{
+    bag.delivered[i] = true;
+}
+
+// Marks the packet at the index as lost.
+fn mark_lost(bag: &mut Bag, i: usize)
+    requires { i < length bag.old.lost.items }
+    ensures packets { bag.new.packets ≡ bag.old.packets }
+    ensures lost { bag.new.lost.items ≡ slice_set bag.old.lost.items i true }
+    ensures delivered { bag.new.delivered ≡ bag.old.delivered }
+    ensures bytes { bag.new.bytes ≡ bag.old.bytes }
+{
+    bag.lost[i] = true;
+}
+
+/// The addressee of packet k takes it, and it is marked.
+pub fn deliver(alloc: Global, parts: &mut Parts, k: u64) -> Result<Noted, NoMemory>
+    requires whole { IsWhole parts.old }
+    ensures { IfOk result (Makes (delivers (world_of parts.old) k (packet_at (world_of parts.old) k)) parts.new) }
+{
+    let i = index_of(k);
+    let Some(packet) = parts.bag.packets.get(i) else {
+        return Ok(Noted::nothing());
+    };
+    let to = packet.to;
+    mark_delivered(&mut parts.bag, i);
+    match to {
+        Node::Manager => Ok(Noted::nothing()),
+        Node::Client(client) => arrive_at_client(parts, client, i),
+        Node::Server(server) => arrive_at_server(alloc, parts, server, i),
+    }
+}
+
+/// Packet k is lost: it is delivered no more.
+pub fn lose(parts: &mut Parts, k: u64) -> Result<Noted, NoMemory>
+    requires whole { IsWhole parts.old }
+    requires there { IsSome (packet_at (world_of parts.old) k) }
+    ensures { IfOk result (Makes (loses (world_of parts.old) k) parts.new) }
+{
+    mark_lost(&mut parts.bag, index_of(k));
+    Ok(Noted::nothing())
+}

@@ -1,0 +1,107 @@
+//! What servers do by themselves: they tick and work, and are shown.
+
+ghost use Rattle.std.specs.Prelude.{◌≡◌, IfOk, OnOk};
+ghost use Rattle.kr_world.specs.World.{server_at};
+ghost use Rattle.kr_world.specs.Step.{works, ticks, ticks_at, shows};
+ghost use Rattle.cluster_sim.specs.Parts.{world_of, noted, IsWhole, IsCounted, IsSent, Makes};
+
+use crate::parts::{Noted, Parts, note};
+use crate::refusals::index_of;
+use chain_server::Effects;
+use kr_order::{NoMemory, ServerId};
+use kr_world::Shown;
+use std::alloc::Global;
+use std::thread::Threads;
+
+/// What a server that had applied so many entries has done: its packets go into the bag, and what it has newly
+/// applied into the journal, where it is new to the history.
+pub fn settle(
+    alloc: Global,
+    parts: &mut Parts,
+    before: u64,
+    effects: Effects,
+) -> Result<(), NoMemory>
+    requires { IsCounted parts.old.bag }
+    ensures views { parts.new.views ≡ parts.old.views }
+    ensures servers { parts.new.servers ≡ parts.old.servers }
+    ensures clients { parts.new.clients ≡ parts.old.clients }
+    ensures bag { OnOk result (IsSent parts.old.bag parts.new.bag effects.packets) }
+    ensures journal { OnOk result (parts.new.journal ≡ noted parts.old.journal before effects.committed) }
+{
+    parts.bag.send_all(effects.packets)?;
+    note(alloc, &mut parts.journal, before, effects.committed)
+}
+
+/// The server answers the queries that wait at it.
+pub fn work<R: Threads + Sync>(
+    rt: &R,
+    alloc: Global,
+    parts: &mut Parts,
+    server: ServerId,
+    workers: u32,
+) -> Result<Noted, NoMemory>
+    requires whole { IsWhole parts.old }
+    ensures { IfOk result (Makes (works (world_of parts.old) server (server_at (world_of parts.old) server)) parts.new) }
+{
+    let i = index_of(u64::from(server.0));
+    if i >= parts.servers.len() {
+        return Ok(Noted::nothing());
+    }
+    let node = &mut parts.servers[i];
+    let before = node.done();
+    let effects = node.work(rt, workers)?;
+    settle(alloc, parts, before, effects)?;
+    Ok(Noted::nothing())
+}
+
+// The server tells those beside it how far it is.
+fn tick_at(alloc: Global, parts: &mut Parts, server: ServerId) -> Result<Noted, NoMemory>
+    requires whole { IsWhole parts.old }
+    ensures { IfOk result (Makes (ticks_at (world_of parts.old) server (server_at (world_of parts.old) server)) parts.new) }
+{
+    let i = index_of(u64::from(server.0));
+    if i >= parts.servers.len() {
+        return Ok(Noted::nothing());
+    }
+    let node = &mut parts.servers[i];
+    let before = node.done();
+    let effects = node.tick()?;
+    settle(alloc, parts, before, effects)?;
+    Ok(Noted::nothing())
+}
+
+/// A tick: of a server; that of the manager does nothing yet.
+pub fn tick(alloc: Global, parts: &mut Parts, who: Option<ServerId>) -> Result<Noted, NoMemory>
+    requires whole { IsWhole parts.old }
+    ensures { IfOk result (Makes (ticks (world_of parts.old) who) parts.new) }
+{
+    match who {
+        None => Ok(Noted::nothing()),
+        Some(server) => tick_at(alloc, parts, server),
+    }
+}
+
+/// What the server has is shown.
+pub fn show(parts: &mut Parts, server: ServerId) -> Result<Noted, NoMemory>
+    requires whole { IsWhole parts.old }
+    ensures { IfOk result (Makes (shows (world_of parts.old) server (server_at (world_of parts.old) server)) parts.new) }
+{
+    let Some(node) = parts.servers.get(index_of(u64::from(server.0))) else {
+        return Ok(Noted::nothing());
+    };
+    let shown = Shown {
+        server,
+        view: node.view_number(),
+        log: node.len(),
+        done: node.done(),
+        held: node.held(),
+        pairs: node.pairs_held(),
+        waiting: node.waiting(),
+    };
+    Ok(Noted {
+        told: None,
+        parts: None,
+        shown: Some(shown),
+        refused: None,
+    })
+}
