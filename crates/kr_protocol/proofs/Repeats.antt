@@ -1,5 +1,5 @@
 -- A packet that comes again leaves the server's log as it is.
-use Rattle.std.proofs.Common.{leb, cond, max, min, List, [], ◌∷◌, ◌++◌, length, drop, ◌≡◌, ◌≤◌, ◌+◌, ◌-◌, ◌⊎◌, ℕ, Bool, true, false, eqb, ltb, ◌&&◌, refl, sym, ap, ◌∙◌, subst, arith, inl, inr}
+use Rattle.std.proofs.Common.{leb, cond, max, min, List, [], ◌∷◌, ◌++◌, length, drop, ◌≡◌, ◌≤◌, ◌+◌, ◌-◌, ◌⊎◌, ℕ, Bool, true, false, not, eqb, ltb, ◌&&◌, ◌||◌, refl, sym, ap, ◌∙◌, subst, arith, inl, inr}
 use Rattle.std.specs.Prelude.{Option, None, Some}
 use Rattle.std.proofs.lemmas.Bool.{le-leb, leb-true, ltb-true, cond-true, cond-false, eq-eqb}
 use Rattle.std.proofs.lemmas.List.{append-nil, length-append, length-drop, drop_all}
@@ -14,10 +14,11 @@ use Rattle.kr_order.specs.declared.message.Message.{Message}
 use Rattle.kr_order.specs.declared.message.Message.TheVariants.{Request, Append, Ack, Ask}
 use Rattle.kr_order.specs.declared.answer.Query.{Query}
 use Rattle.kr_order.specs.History.{highest_seq}
+use Rattle.kr_order.specs.declared.view.View.{View}
 use Rattle.kr_order.specs.View.{prev_of}
 use Rattle.kr_order.specs.Done.{done_of, last_of}
 use Rattle.kr_protocol.specs.Reaction.{Reaction, ignored}
-use Rattle.kr_protocol.specs.Server.{Server, sends, follows, appended, advances, advances_at_tail, enters, may_enter, enters_new, requested, after_request, missing, after_append, acknowledges, feeds, after_ack, most_waiting, after_ask, viewed, is_member, is_at_tail, is_first, is_server, acknowledged, ack, prev, next, window, reply_packet, from_client, from_server, taken_from}
+use Rattle.kr_protocol.specs.Server.{Server, sends, follows, appended, advances, advances_at_tail, enters, may_enter, enters_new, requested, after_request, missing, after_append, acknowledges, feeds, after_ack, most_waiting, is_for_tail, refer_packet, waits, asked_in, after_ask, viewed, is_member, is_at_tail, is_first, is_server, acknowledged, ack, prev, next, window, reply_packet, from_client, from_server, taken_from}
 use Rattle.kr_protocol.specs.Laws.{RepeatsChangeNothing}
 
 -- a command in the log is none of greater number
@@ -163,12 +164,20 @@ ack_keeps server from done len = by_test (is_server (next server) from)
     by_test false = refl
 
 -- nor does a query
-ask_keeps : (server : Server) (query : Query) → (after_ask server query).after.log ≡ server.log
-ask_keeps server query = by_test (leb most_waiting (length server.waiting))
+asked_keeps : (server : Server) (query : Query) (view : Option View) → (asked_in server query view).after.log ≡ server.log
+asked_keeps server query None = refl
+asked_keeps server query (Some view) = by_test (not (is_member server) || is_for_tail server query)
   where
-    by_test : (full : Bool) → (cond full (ignored server) (sends (record server { waiting = server.waiting ++ query ∷ [] }) [])).after.log ≡ server.log
+    wait : (full : Bool) → (cond full (ignored server) (sends (record server { waiting = server.waiting ++ query ∷ [] }) [])).after.log ≡ server.log
+    wait true = refl
+    wait false = refl
+
+    by_test : (other : Bool) → (cond other (sends server (refer_packet server view query ∷ [])) (waits server query)).after.log ≡ server.log
     by_test true = refl
-    by_test false = refl
+    by_test false = wait (leb most_waiting (length server.waiting))
+
+ask_keeps : (server : Server) (query : Query) → (after_ask server query).after.log ≡ server.log
+ask_keeps server query = asked_keeps server query server.view
 
 client_again : (server : Server) (client : ClientId) (message : Message) → (from_client (from_client server client message).after client message).after.log ≡ (from_client server client message).after.log
 client_again server client (Request seq command) = request_again server client seq command

@@ -1,4 +1,5 @@
 pub mod Reaction
 pub mod Server
+pub mod Cache
 pub mod Client
 pub mod Laws

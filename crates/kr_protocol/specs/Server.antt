@@ -1,5 +1,5 @@
 -- One server of a chain: what it does with each message, and when it works.
-use Rattle.std.specs.Prelude.{length, map, take, drop, min, max, nat_le, ℕ, ◌+◌, ◌-◌, List, [], ◌∷◌, ◌++◌, ◌==◌, nat_lt, find, is_some, Bool, false, ◌&&◌, if◌then◌else◌, Option, None, Some}
+use Rattle.std.specs.Prelude.{length, map, take, drop, min, max, nat_le, ℕ, ◌+◌, ◌-◌, List, [], ◌∷◌, ◌++◌, ◌==◌, nat_lt, find, is_some, Bool, false, not, ◌&&◌, ◌||◌, if◌then◌else◌, Option, None, Some}
 use Rattle.kr_order.specs.declared.ids.ClientId.{ClientId}
 use Rattle.kr_order.specs.declared.ids.ServerId.{ServerId}
 use Rattle.kr_order.specs.declared.ids.EventId.{EventId}
@@ -12,7 +12,7 @@ use Rattle.kr_order.specs.declared.history.DoneEntry.{DoneEntry}
 use Rattle.kr_order.specs.declared.message.Node as nodes
 use Rattle.kr_order.specs.declared.message.Node.TheVariants.{Manager, Client, Server as FromServer}
 use Rattle.kr_order.specs.declared.message.Message.{Message}
-use Rattle.kr_order.specs.declared.message.Message.TheVariants.{Request, Append, Ack, Replied, Ask, Answered}
+use Rattle.kr_order.specs.declared.message.Message.TheVariants.{Request, Append, Ack, Replied, Ask, Answered, Refer}
 use Rattle.kr_order.specs.declared.message.Packet.{Packet}
 use Rattle.kr_order.specs.declared.view.View.{View}
 use Rattle.kr_order.specs.History.{highest_seq}
@@ -211,10 +211,30 @@ after_ack server from done len =
 abbrev pub most_waiting : ℕ
 most_waiting = 64
 
+-- only the tail answers the pairs of a query that are asked again
+abbrev pub is_for_tail : Server → Query → Bool
+is_for_tail server query = query.part == 2 && not (is_at_tail server)
+
+-- the client is told which view the server has adopted, and to ask another
+abbrev pub refer_packet : Server → View → Query → Packet
+refer_packet server view query =
+    record { from = FromServer server.id; to = Client query.client; message = Refer query.q query.part view }
+
 -- the query joins the end of those that wait
-abbrev pub after_ask : Server → Query → Reaction Server
-after_ask server query =
+abbrev pub waits : Server → Query → Reaction Server
+waits server query =
     if nat_le most_waiting (length server.waiting) then ignored server else sends (record server { waiting = server.waiting ++ query ∷ [] }) []
+
+-- a server that is no member of the chain, and one that is not the tail where only the tail answers, refers the client
+-- to its view
+abbrev pub asked_in : Server → Query → Option View → Reaction Server
+asked_in server query None = ignored server
+asked_in server query (Some view) =
+    if not (is_member server) || is_for_tail server query then sends server (refer_packet server view query ∷ []) else waits server query
+
+-- a client asks; a server without a view takes no notice
+abbrev pub after_ask : Server → Query → Reaction Server
+after_ask server query = asked_in server query server.view
 
 -- clients send requests and queries
 abbrev pub from_client : Server → ClientId → Message → Reaction Server
@@ -252,9 +272,18 @@ abbrev pub answer_packet : Server → Query → Packet
 answer_packet server query =
     record { from = FromServer server.id; to = Client query.client; message = Answered query.q query.part (record { entry = server.done; answers = answers_of server query.pairs }) }
 
+-- what a query that waits is told: which view the server has adopted, where only the tail answers it; else the answers
+abbrev pub worked_in : Server → Query → Option View → Packet
+worked_in server query None = answer_packet server query
+worked_in server query (Some view) =
+    if is_for_tail server query then refer_packet server view query else answer_packet server query
+
+abbrev pub work_packet : Server → Query → Packet
+work_packet server query = worked_in server query server.view
+
 -- the server answers every waiting query, the oldest first, from its acknowledged prefix
 abbrev pub server_works : Server → Reaction Server
-server_works server = sends (record server { waiting = [] }) (map (answer_packet server) server.waiting)
+server_works server = sends (record server { waiting = [] }) (map (work_packet server) server.waiting)
 
 -- a server whose time has come tells the server before it what it has, and the one behind it what that may lack
 abbrev pub server_ticks : Server → Reaction Server

@@ -6,7 +6,7 @@ use Rattle.std.proofs.lemmas.List.Elements.{All-nil, All-push}
 use Rattle.script_lang.specs.declared.script.Event.{Event}
 use Rattle.script_lang.specs.Line.{line, HasNoEnd, IsCut}
 use Rattle.script_lang.specs.Event.{IsEvent, event_text}
-use Rattle.script_lang.specs.Script.{IsSize, MayStand, first_line, event_lines, BeginsWithEvent, IsBadLine}
+use Rattle.script_lang.specs.Script.{IsSize, first_line, event_lines, BeginsWithEvent, IsBadLine}
 use Rattle.script_lang.specs.Reading.{ReadsSize, ReadsEvent, Spells}
 use Rattle.script_lang.proofs.LineLemmas.{line_once, line_has_end}
 use Rattle.script_lang.proofs.EventLemmas.{event_text-has_no_end, event_text-injective}
@@ -17,19 +17,19 @@ event_line-once one other xs ys fit fit' same =
     let cut = line_once (event_text one) xs (event_text other) ys (event_text-has_no_end one fit) (event_text-has_no_end other fit') same in
     (event_text-injective one other fit fit' cut.0, cut.1)
 
--- a cut line is in front of an event that may stand there only if it spells one
-pub no_event_line : (servers : ℕ) (bytes text rest : List ℕ) → IsCut bytes text rest → ((event : Event) → IsEvent event → MayStand servers event → text ≢ event_text event) → BeginsWithEvent servers bytes → ⊥
-no_event_line servers bytes text rest cut other found =
-    let same : line text ++ rest ≡ line (event_text found.0) ++ found.1 = sym cut.whole ∙ found.4 in
-    other found.0 found.2 found.3 ((line_once text rest (event_text found.0) found.1 cut.text_has_no_end (event_text-has_no_end found.0 found.2) same).0)
+-- a cut line is in front of an event only if it spells one
+pub no_event_line : (bytes text rest : List ℕ) → IsCut bytes text rest → ((event : Event) → IsEvent event → text ≢ event_text event) → BeginsWithEvent bytes → ⊥
+no_event_line bytes text rest cut other found =
+    let same : line text ++ rest ≡ line (event_text found.0) ++ found.1 = sym cut.whole ∙ found.3 in
+    other found.0 found.2 ((line_once text rest (event_text found.0) found.1 cut.text_has_no_end (event_text-has_no_end found.0 found.2) same).0)
 
 -- bytes without an LF are in front of no event
-pub no_line : (servers : ℕ) (bytes : List ℕ) → HasNoEnd bytes → BeginsWithEvent servers bytes → ⊥
-no_line servers bytes free found = line_has_end (event_text found.0) found.1 (subst HasNoEnd found.4 free)
+pub no_line : (bytes : List ℕ) → HasNoEnd bytes → BeginsWithEvent bytes → ⊥
+no_line bytes free found = line_has_end (event_text found.0) found.1 (subst HasNoEnd found.3 free)
 
 -- no bytes are in front of no event
-pub no_bytes : (servers : ℕ) → BeginsWithEvent servers [] → ⊥
-no_bytes servers found = no_line servers [] (All-nil (λ b. b ≢ 10)) found
+pub no_bytes : BeginsWithEvent [] → ⊥
+no_bytes found = no_line [] (All-nil (λ b. b ≢ 10)) found
 
 -- lines of both parts are those of the whole
 pub event_lines-append : (xs ys : List Event) → event_lines (xs ++ ys) ≡ event_lines xs ++ event_lines ys
@@ -41,20 +41,18 @@ event_lines-append (x ∷ xs) ys =
 pub record IsRead (bytes : List ℕ) (servers clients : ℕ) (events : List Event) (rest : List ℕ) : Type 0 where
   pub size : IsSize servers clients
   pub each : All IsEvent events
-  pub stand : All (MayStand servers) events
   pub front : bytes ≡ first_line servers clients ++ event_lines events ++ rest
 
 pub read_none : (bytes : List ℕ) (servers clients : ℕ) (rest : List ℕ) → ReadsSize bytes servers clients rest → IsRead bytes servers clients [] rest
 read_none bytes servers clients rest read =
-    record { size = read.size; each = All-nil IsEvent; stand = All-nil (MayStand servers); front = read.whole ∙ ap (λ f. f ++ rest) (sym (append-nil (first_line servers clients))) }
+    record { size = read.size; each = All-nil IsEvent; front = read.whole ∙ ap (λ f. f ++ rest) (sym (append-nil (first_line servers clients))) }
 
-pub read_more : (bytes : List ℕ) (servers clients : ℕ) (events : List Event) (rest : List ℕ) (event : Event) (more : List ℕ) → IsRead bytes servers clients events rest → ReadsEvent rest event more → MayStand servers event → IsRead bytes servers clients (events ++ event ∷ []) more
-read_more bytes servers clients events rest event more before read stands =
+pub read_more : (bytes : List ℕ) (servers clients : ℕ) (events : List Event) (rest : List ℕ) (event : Event) (more : List ℕ) → IsRead bytes servers clients events rest → ReadsEvent rest event more → IsRead bytes servers clients (events ++ event ∷ []) more
+read_more bytes servers clients events rest event more before read =
     let lines : event_lines (events ++ event ∷ []) ≡ event_lines events ++ line (event_text event) = event_lines-append events (event ∷ []) ∙ ap (λ l. event_lines events ++ l) (append-nil (line (event_text event))) in
     record {
       size = before.size;
       each = All-push IsEvent events event before.each read.fit;
-      stand = All-push (MayStand servers) events event before.stand stands;
       front = before.front ∙ ap (λ r. first_line servers clients ++ event_lines events ++ r) read.whole ∙ regroup (first_line servers clients) (event_lines events) (line (event_text event)) more ∙ ap (λ l. first_line servers clients ++ l ++ more) (sym lines);
     }
   where
@@ -72,13 +70,13 @@ line_read rest text more read event cut is spells =
     record { fit = spelt.0; whole = cut.whole ∙ ap (λ t. line t ++ more) spelt.1 }
 
 -- a line that spells none is in front of no event
-pub line_not_read : (servers : ℕ) (rest text more : List ℕ) (read : Option Event) → IsCut rest text more → read ≡ None → Spells event_text IsEvent text read → BeginsWithEvent servers rest → ⊥
-line_not_read servers rest text more read cut is spells =
+pub line_not_read : (rest text more : List ℕ) (read : Option Event) → IsCut rest text more → read ≡ None → Spells event_text IsEvent text read → BeginsWithEvent rest → ⊥
+line_not_read rest text more read cut is spells =
     let other : (event : Event) → IsEvent event → text ≢ event_text event = subst (Spells event_text IsEvent text) is spells in
-    no_event_line servers rest text more cut (λ event fit _. other event fit)
+    no_event_line rest text more cut other
 
 -- the line that is in no script
-pub stops : (bytes : List ℕ) (servers clients : ℕ) (events : List Event) (rest : List ℕ) (n : ℕ) → IsRead bytes servers clients events rest → rest ≢ [] → (BeginsWithEvent servers rest → ⊥) → n ≡ length events + 2 → IsBadLine bytes n
+pub stops : (bytes : List ℕ) (servers clients : ℕ) (events : List Event) (rest : List ℕ) (n : ℕ) → IsRead bytes servers clients events rest → rest ≢ [] → (BeginsWithEvent rest → ⊥) → n ≡ length events + 2 → IsBadLine bytes n
 stops bytes servers clients events rest n read more bad number =
     inr (record {
       servers = servers;
@@ -87,7 +85,6 @@ stops bytes servers clients events rest n read more bad number =
       rest = rest;
       size = read.size;
       each = read.each;
-      stand = read.stand;
       front = read.front;
       more = more;
       bad = bad;

@@ -7,7 +7,7 @@ use Rattle.script_lang.specs.declared.script.Event.{Event}
 use Rattle.script_lang.specs.declared.script.Script.{Script}
 use Rattle.script_lang.specs.Line.{line}
 use Rattle.script_lang.specs.Event.{IsEvent, event_text}
-use Rattle.script_lang.specs.Script.{MayStand, first_line, event_lines, Parses, BeginsWithEvent, BeginsWithSize, StopsAt}
+use Rattle.script_lang.specs.Script.{first_line, event_lines, Parses, BeginsWithEvent, BeginsWithSize, StopsAt}
 use Rattle.script_lang.specs.Laws.{BadLinesAreInNoScript, TheBadLineIsOne, ASpellingIsOfOneScript, ScriptsAreReadAsPrinted}
 use Rattle.script_lang.proofs.SizeLemmas.{SameSize, size_once}
 use Rattle.script_lang.proofs.ScriptLemmas.{IsRead, event_line-once, no_bytes}
@@ -19,14 +19,14 @@ pub record GoesOn (events : List Event) (rest : List ℕ) (others : List Event) 
   pub rest_is : other_rest ≡ event_lines more ++ rest
 
 -- where no event's line follows, no other reading of the bytes has more events
-pub goes_on : (servers : ℕ) (events : List Event) (rest : List ℕ) (others : List Event) (other_rest : List ℕ) → All IsEvent events → All IsEvent others → All (MayStand servers) others → (BeginsWithEvent servers rest → ⊥) → event_lines events ++ rest ≡ event_lines others ++ other_rest → GoesOn events rest others other_rest
-goes_on servers events rest [] other_rest _ _ _ _ same = record { more = events; events_are = refl; rest_is = sym same }
-goes_on servers [] rest (o ∷ others) other_rest _ fit stand stops same =
-    absurd (stops (o, event_lines others ++ other_rest, All-head IsEvent o others fit, All-head (MayStand servers) o others stand, same ∙ append_assoc (line (event_text o)) (event_lines others) other_rest))
-goes_on servers (e ∷ events) rest (o ∷ others) other_rest fit fit' stand stops same =
+pub goes_on : (events : List Event) (rest : List ℕ) (others : List Event) (other_rest : List ℕ) → All IsEvent events → All IsEvent others → (BeginsWithEvent rest → ⊥) → event_lines events ++ rest ≡ event_lines others ++ other_rest → GoesOn events rest others other_rest
+goes_on events rest [] other_rest _ _ _ same = record { more = events; events_are = refl; rest_is = sym same }
+goes_on [] rest (o ∷ others) other_rest _ fit stops same =
+    absurd (stops (o, event_lines others ++ other_rest, All-head IsEvent o others fit, same ∙ append_assoc (line (event_text o)) (event_lines others) other_rest))
+goes_on (e ∷ events) rest (o ∷ others) other_rest fit fit' stops same =
     let lines : line (event_text e) ++ (event_lines events ++ rest) ≡ line (event_text o) ++ (event_lines others ++ other_rest) = sym (append_assoc (line (event_text e)) (event_lines events) rest) ∙ same ∙ append_assoc (line (event_text o)) (event_lines others) other_rest in
     let firsts = event_line-once e o (event_lines events ++ rest) (event_lines others ++ other_rest) (All-head IsEvent e events fit) (All-head IsEvent o others fit') lines in
-    let tails = goes_on servers events rest others other_rest (All-tail IsEvent e events fit) (All-tail IsEvent o others fit') (All-tail (MayStand servers) o others stand) stops firsts.1 in
+    let tails = goes_on events rest others other_rest (All-tail IsEvent e events fit) (All-tail IsEvent o others fit') stops firsts.1 in
     record {
       more = tails.more;
       events_are = ap (λ x. x ∷ events) firsts.0 ∙ ap (λ xs. o ∷ xs) tails.events_are;
@@ -38,13 +38,12 @@ all_read bytes script parses =
     record {
       size = parses.fit.size;
       each = parses.fit.each;
-      stand = parses.fit.stand;
       front = parses.spelt ∙ sym (append-nil (first_line script.servers script.clients ++ event_lines script.events));
     }
 
 stopped : (bytes : List ℕ) (n : ℕ) → (stops : StopsAt bytes n) → IsRead bytes stops.servers stops.clients stops.events stops.rest
 stopped bytes n stops =
-    record { size = stops.size; each = stops.each; stand = stops.stand; front = stops.front }
+    record { size = stops.size; each = stops.each; front = stops.front }
 
 begins : (bytes : List ℕ) (s c : ℕ) (events : List Event) (rest : List ℕ) → IsRead bytes s c events rest → BeginsWithSize bytes
 begins bytes s c events rest read =
@@ -56,10 +55,10 @@ one_size bytes s c events rest s' c' others other_rest one other =
     size_once s c (event_lines events ++ rest) s' c' (event_lines others ++ other_rest) one.size other.size (sym (append_assoc (first_line s c) (event_lines events) rest) ∙ sym one.front ∙ other.front ∙ append_assoc (first_line s' c') (event_lines others) other_rest)
 
 -- and where no event's line follows the one, its events go on after the other's
-reads_on : (bytes : List ℕ) (s c : ℕ) (events : List Event) (rest : List ℕ) (s' c' : ℕ) (others : List Event) (other_rest : List ℕ) → IsRead bytes s c events rest → IsRead bytes s' c' others other_rest → (BeginsWithEvent s rest → ⊥) → GoesOn events rest others other_rest
+reads_on : (bytes : List ℕ) (s c : ℕ) (events : List Event) (rest : List ℕ) (s' c' : ℕ) (others : List Event) (other_rest : List ℕ) → IsRead bytes s c events rest → IsRead bytes s' c' others other_rest → (BeginsWithEvent rest → ⊥) → GoesOn events rest others other_rest
 reads_on bytes s c events rest s' c' others other_rest one other bad =
     let same = one_size bytes s c events rest s' c' others other_rest one other in
-    goes_on s events rest others other_rest one.each other.each (subst (λ n. All (MayStand n) others) (sym same.servers_are) other.stand) bad same.rest_is
+    goes_on events rest others other_rest one.each other.each bad same.rest_is
 
 nothing_after : (xs ys : List ℕ) → [] ≡ xs ++ ys → ys ≡ []
 nothing_after xs ys is = nil_from_length ys (omega (arith, ap length is, length-append xs ys))
@@ -98,8 +97,8 @@ spelt_once bytes one other parses parses' =
     let read = all_read bytes one parses in
     let read' = all_read bytes other parses' in
     let same = one_size bytes one.servers one.clients one.events [] other.servers other.clients other.events [] read read' in
-    let on = reads_on bytes one.servers one.clients one.events [] other.servers other.clients other.events [] read read' (no_bytes one.servers) in
-    let back = reads_on bytes other.servers other.clients other.events [] one.servers one.clients one.events [] read' read (no_bytes other.servers) in
+    let on = reads_on bytes one.servers one.clients one.events [] other.servers other.clients other.events [] read read' no_bytes in
+    let back = reads_on bytes other.servers other.clients other.events [] one.servers one.clients one.events [] read' read no_bytes in
     let none : on.more ≡ [] = nil_from_length on.more (omega (arith, ap length on.events_are, length-append other.events on.more, ap length back.events_are, length-append one.events back.more)) in
     same_script one.servers one.clients other.servers other.clients one.events other.events same.servers_are same.clients_are (on.events_are ∙ ap (λ m. other.events ++ m) none ∙ append-nil other.events)
 

@@ -63,7 +63,7 @@ abbrev pub events_of_three : List Event
 events_of_three =
     Call (client 1) Create ∷ Call (client 2) (Assign pairs_of_batch) ∷ Call (client 1) (Acquire (event 1))
     ∷ Call (client 2) (Release (event 1)) ∷ Retry (client 1) (server 2) ∷ Deliver 1 ∷ Lose 2
-    ∷ Tick (Some (server 3)) ∷ Show (server 1) ∷ []
+    ∷ Tick (Some (server 3)) ∷ Query (client 2) (server 3) pairs_of_query ∷ Work (server 2) 1 ∷ Show (server 1) ∷ []
 
 abbrev pub of_three : Script
 of_three = record { servers = 3; clients = 2; events = events_of_three }
@@ -74,4 +74,5 @@ of_three_spelt =
     line (codes "cluster 3 2") ++ line (codes "create 1")
     ++ line (codes "assign 2 1!2 3?18446744073709551615") ++ line (codes "acquire 1 1")
     ++ line (codes "release 2 1") ++ line (codes "retry 1 2") ++ line (codes "deliver 1")
-    ++ line (codes "lose 2") ++ line (codes "tick 3") ++ line (codes "show 1")
+    ++ line (codes "lose 2") ++ line (codes "tick 3") ++ line (codes "query 2 3 1,2 3,3")
+    ++ line (codes "work 2 1") ++ line (codes "show 1")

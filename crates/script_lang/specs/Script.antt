@@ -2,7 +2,6 @@
 use Rattle.std.specs.Prelude.{◌⊎◌, ◌≡◌, ◌≢◌, ℕ, ◌+◌, List, [], ◌∷◌, ◌++◌, length, All, codes}
 use Rattle.std.specs.Fmt.{decimal}
 use Rattle.script_lang.specs.declared.script.Event.{Event}
-use Rattle.script_lang.specs.declared.script.Event.TheVariants.{Query, Work}
 use Rattle.script_lang.specs.declared.script.Script.{Script}
 use Rattle.script_lang.specs.Line.{line}
 use Rattle.script_lang.specs.Number.{IsFromOneTo}
@@ -13,17 +12,10 @@ pub record IsSize (servers clients : ℕ) : Type 0 where
   pub servers_fit : IsFromOneTo 8 servers
   pub clients_fit : IsFromOneTo 16 clients
 
--- the event may stand in a script of so many servers: queries are answered where one server is the whole chain
-abbrev pub MayStand : ℕ → Event → Type 0
-MayStand servers (Query client server pairs) = servers ≡ 1
-MayStand servers (Work server workers) = servers ≡ 1
-MayStand servers event = Unit {0}
-
 -- a script that some bytes spell
 pub record IsScript (script : Script) : Type 0 where
   pub size : IsSize script.servers script.clients
   pub each : All IsEvent script.events
-  pub stand : All (MayStand script.servers) script.events
 
 -- the first line
 abbrev pub first_line : ℕ → ℕ → List ℕ
@@ -41,11 +33,9 @@ pub record Parses (bytes : List ℕ) (script : Script) : Type 0 where
   pub fit : IsScript script
   pub spelt : bytes ≡ script_bytes script
 
--- the bytes go on with the line of an event that may stand beside so many servers
-abbrev pub BeginsWithEvent : ℕ → List ℕ → Type 0
-BeginsWithEvent servers bytes =
-    (event : Event) × (rest : List ℕ) × IsEvent event × MayStand servers event
-    × (bytes ≡ line (event_text event) ++ rest)
+-- the bytes go on with the line of an event
+abbrev pub BeginsWithEvent : List ℕ → Type 0
+BeginsWithEvent bytes = (event : Event) × (rest : List ℕ) × IsEvent event × (bytes ≡ line (event_text event) ++ rest)
 
 -- the bytes begin with the first line of a script
 abbrev pub BeginsWithSize : List ℕ → Type 0
@@ -53,8 +43,8 @@ BeginsWithSize bytes =
     (servers : ℕ) × (clients : ℕ) × (rest : List ℕ) × IsSize servers clients
     × (bytes ≡ first_line servers clients ++ rest)
 
--- the bytes are good lines, and then something that begins with no line of an event that may stand there; the
--- bad line is the n-th
+-- the bytes are good lines, and then something that begins with no line of an event; the bad line is
+-- the n-th
 pub record StopsAt (bytes : List ℕ) (n : ℕ) : Type 0 where
   pub servers : ℕ
   pub clients : ℕ
@@ -62,10 +52,9 @@ pub record StopsAt (bytes : List ℕ) (n : ℕ) : Type 0 where
   pub rest : List ℕ
   pub size : IsSize servers clients
   pub each : All IsEvent events
-  pub stand : All (MayStand servers) events
   pub front : bytes ≡ first_line servers clients ++ event_lines events ++ rest
   pub more : rest ≢ []
-  pub bad : BeginsWithEvent servers rest → ⊥
+  pub bad : BeginsWithEvent rest → ⊥
   pub number : n ≡ length events + 2
 
 -- line n of the bytes, counted from 1, is the first that is in no script

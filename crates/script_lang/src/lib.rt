@@ -1,10 +1,10 @@
 //! Scripts: the lines that say what a run of the cluster does, step by step.
 //!
 //! A script is lines, each ended by LF, in exactly one spelling: the first, `cluster N C`, gives the numbers of
-//! servers, 1 to 8, and of clients, 1 to 16; each of the others is one event, told by its first word. Queries, and
-//! work on them, stand only in a script of one server. The grammar is stated as the printing of a script; a reader
-//! answers the script that is spelt so, or the number of the first line that is in no script, and a printer writes
-//! each line. The texts of entries, replies and answers, which transcripts have too, are printed here.
+//! servers, 1 to 8, and of clients, 1 to 16; each of the others is one event, told by its first word. The grammar is
+//! stated as the printing of a script; a reader answers the script that is spelt so, or the number of the first line
+//! that is in no script, and a printer writes each line. The texts of entries, replies and answers, which transcripts
+//! have too, are printed here.
 #![tactic(auto)]
 
 mod events;

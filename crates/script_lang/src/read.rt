@@ -1,7 +1,7 @@
 //! The reader of scripts.
 
-ghost use Rattle.std.specs.Prelude.{◌↔◌, IsTrue, IfSome, IfNone};
-ghost use Rattle.script_lang.specs.Script.{BeginsWithSize, MayStand};
+ghost use Rattle.std.specs.Prelude.{IfSome, IfNone};
+ghost use Rattle.script_lang.specs.Script.{BeginsWithSize};
 ghost use Rattle.script_lang.specs.Reading.{Reads, ReadsSize};
 
 use crate::events::event_of;
@@ -41,8 +41,7 @@ impl From<NoMemory> for ScriptStop {
 }
 
 /// The script that the bytes spell. `BadLine` comes exactly where they spell none, with the number of the first
-/// line that is not in the grammar; bytes with no line at all have their bad line at 1. A `query` or `work` line
-/// is bad where the first line gives more than one server.
+/// line that is not in the grammar; bytes with no line at all have their bad line at 1.
 pub fn read_script(alloc: Global, bytes: &[u8]) -> Result<Script, ScriptStop>
     ensures { Reads bytes.now result }
 {
@@ -58,9 +57,6 @@ pub fn read_script(alloc: Global, bytes: &[u8]) -> Result<Script, ScriptStop>
         let Some(event) = event_of(alloc, text)? else {
             return Err(ScriptStop::BadLine(line));
         };
-        if !may_stand(servers, &event) {
-            return Err(ScriptStop::BadLine(line));
-        }
         events.push(event)?;
         rest = more;
     }
@@ -69,16 +65,6 @@ pub fn read_script(alloc: Global, bytes: &[u8]) -> Result<Script, ScriptStop>
         clients,
         events,
     })
-}
-
-// Whether the event may stand in a script of so many servers.
-fn may_stand(servers: u32, event: &Event) -> bool
-    ensures { IsTrue result ↔ MayStand servers event.now }
-{
-    match event {
-        Event::Query { .. } | Event::Work { .. } => servers == 1,
-        _ => true,
-    }
 }
 
 // The numbers of servers and clients in the first line, and what follows it.

@@ -12,8 +12,7 @@ pub enum Event {
         client: ClientId,
         command: Command,
     },
-    /// `query c s Q Q ..` with a word `a,b` for each pair: the client asks the server about the pairs. It stands
-    /// only in a script of one server.
+    /// `query c s Q Q ..` with a word `a,b` for each pair: the client asks the server about the pairs.
     Query {
         client: ClientId,
         server: ServerId,
@@ -30,8 +29,7 @@ pub enum Event {
     Lose(u64),
     /// `tick s`: the server tells the others again how far it is. `None` is the manager, which no line ticks.
     Tick(Option<ServerId>),
-    /// `work s w`: the server answers the queries that wait there, by so many workers. It stands only in a
-    /// script of one server.
+    /// `work s w`: the server answers the queries that wait there, by so many workers.
     Work {
         server: ServerId,
         workers: u32,

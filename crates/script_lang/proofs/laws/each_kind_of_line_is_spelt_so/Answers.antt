@@ -5,7 +5,7 @@ use Rattle.std.proofs.lemmas.List.Elements.{All-from_recursion}
 use Rattle.script_lang.specs.Number.{IsFromOneTo}
 use Rattle.script_lang.specs.Event.{IsEvent, IsNumber, IsEventNumber, IsPair, IsAskedPair, ArePairs}
 use Rattle.script_lang.specs.Rows.{must, prefer, asked, pairs_of_batch, pairs_of_query, each_kind, each_kind_of_event, of_three}
-use Rattle.script_lang.specs.Script.{MayStand, IsScript}
+use Rattle.script_lang.specs.Script.{IsScript}
 use Rattle.script_lang.proofs.laws.each_kind_of_line_is_spelt_so.Goals as goal
 
 in_range : (most n : ℕ) → 1 ≤ n → n ≤ most → IsFromOneTo most n
@@ -86,12 +86,8 @@ each_fits = All-from_recursion IsEvent each_kind_of_event (
   ),
 )
 
-each_stands : All (MayStand 1) each_kind_of_event
-each_stands =
-    All-from_recursion (MayStand 1) each_kind_of_event (tt, (tt, (tt, (tt, (tt, (refl, (tt, (tt, (tt, (tt, (refl, (tt, tt))))))))))))
-
 each_kind_fits : IsScript each_kind
-each_kind_fits = record { size = record { servers_fit = in_range 8 1 (omega arith) (omega arith); clients_fit = in_range 16 16 (omega arith) (omega arith) }; each = each_fits; stand = each_stands }
+each_kind_fits = record { size = record { servers_fit = in_range 8 1 (omega arith) (omega arith); clients_fit = in_range 16 16 (omega arith) (omega arith) }; each = each_fits }
 
 of_three_fits : IsScript of_three
 of_three_fits =
@@ -107,13 +103,24 @@ of_three_fits =
               record { client_fits = two; command_fits = first_event },
               (
                 record { client_fits = one; server_fits = two },
-                (one, (two, (small 3 (omega arith) (omega arith), (one, tt)))),
+                (
+                  one,
+                  (
+                    two,
+                    (
+                      small 3 (omega arith) (omega arith),
+                      (
+                        record { client_fits = two; server_fits = small 3 (omega arith) (omega arith); some = omega arith; pairs_fit = record { most = omega arith; each = query_fits } },
+                        (record { server_fits = two; workers_fit = in_range 8 1 (omega arith) (omega arith) }, (one, tt)),
+                      ),
+                    ),
+                  ),
+                ),
               ),
             ),
           ),
         ),
       );
-      stand = All-from_recursion (MayStand 3) of_three.events (tt, (tt, (tt, (tt, (tt, (tt, (tt, (tt, (tt, tt)))))))));
     }
 
 pub returns : goal.returns
