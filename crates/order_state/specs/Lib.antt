@@ -2,4 +2,3 @@ pub mod Ordered
 pub mod Decision
 pub mod Standing
 pub mod Kept
-pub mod Board

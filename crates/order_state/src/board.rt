@@ -1,21 +1,19 @@
 //! What a server keeps of the entries that it has applied, and what it answers from them.
 
-ghost use Rattle.std.specs.Prelude.{◌≡◌, ◌+◌, ◌^◌, ◌<◌, ◌≤◌, ◌∷◌, ◌++◌, [], List, length, map, IfOk, OnOk, OnErr};
+ghost use Rattle.std.specs.Prelude.{◌≡◌, ◌^◌, ◌<◌, ◌∷◌, ◌++◌, [], List, length, map, IfOk, OnOk, OnErr};
 ghost use Rattle.std.specs.Option.{option_map};
 ghost use Rattle.kr_order.specs.declared.history.Entry.{Entry};
 ghost use Rattle.kr_order.specs.Held.{held_events, held_pairs};
 ghost use Rattle.kr_order.specs.Reply.{reply_to};
-ghost use Rattle.kr_order.specs.Answer.{answers_after};
 ghost use Rattle.kr_order.specs.Done.{done_of, last_of};
+ghost use Rattle.query_worker.specs.Told.{told_after};
 ghost use Rattle.order_state.specs.Kept.{kept_of};
-ghost use Rattle.order_state.specs.Board.{told_after};
 
 use crate::{Kept, State};
-use kr_order::{Answers, ClientId, Copied, Entry, EventId, NoMemory, Query, Reply, Steps, Told};
-use reach::{Asks, Scratch};
+use kr_order::{ClientId, Copied, Entry, NoMemory, Query, Reply, Told};
+use query_worker::{MOST_WORKERS, answer_all};
 use std::alloc::Global;
-use std::marker::{Brand, Model};
-use std::sync::ledger::{Blank, Ledger};
+use std::marker::Model;
 use std::thread::Threads;
 
 /// The state of a history, as a server uses it.
@@ -57,7 +55,7 @@ pub trait Board: Drop {
         ensures { result ≡ length (held_pairs (stands self.now)) };
 }
 
-/// A board over one state. It answers one query after the other.
+/// A board over one state.
 #[derive(Debug, Drop)]
 pub struct PlainBoard {
     alloc: Global,
@@ -85,57 +83,6 @@ impl PlainBoard {
     }
 }
 
-// The answers to these pairs after the state's history.
-fn answers<L: Ledger>(
-    alloc: Global,
-    state: &State,
-    pairs: &[(EventId, EventId)],
-    scratch: &mut Scratch,
-    steps: &mut Steps<L>,
-) -> Result<Answers, NoMemory>
-    requires { state.now.cells ≤ scratch.old }
-    ensures answers { IfOk result (λ answers. answers ≡ answers_after state.now.history pairs.now) }
-    ensures room { scratch.new ≡ scratch.old }
-{
-    let mut answers = Answers::new(alloc);
-    for pair in pairs {
-        answers.push(state.answer(scratch, pair.0, pair.1, steps))?;
-    }
-    Ok(answers)
-}
-
-// What is told to these queries after the state's history.
-fn told<L: Ledger>(
-    alloc: Global,
-    state: &State,
-    queries: &[Query],
-    blank: Blank,
-) -> Result<Vec<Told>, NoMemory>
-    requires name { blank.name ≡ L.name }
-    requires parts { blank.parts ≡ L.parts }
-    requires some { 0 < blank.parts }
-    ensures { IfOk result (λ told. told.items ≡ map (told_after state.now.history) queries.now) }
-{
-    let mut steps = Steps::<L>::new(blank);
-    let mut scratch = Scratch::new(alloc);
-    state.fit(&mut scratch)?;
-    let mut told = Vec::new(alloc);
-    for query in queries {
-        let answers = answers(
-            alloc,
-            state,
-            query.pairs.as_slice(),
-            &mut scratch,
-            &mut steps,
-        )?;
-        told.push(Told {
-            entry: state.entry(),
-            answers,
-        })?;
-    }
-    Ok(told)
-}
-
 impl Board for PlainBoard {
     ghost stands = { λ board. board };
 
@@ -146,11 +93,12 @@ impl Board for PlainBoard {
 
     fn all<R: Threads + Sync>(
         &self,
-        _rt: &R,
+        rt: &R,
         queries: &[Query],
-        _workers: u32,
+        workers: u32,
     ) -> Result<Vec<Told>, NoMemory> {
-        told::<Brand>(self.alloc, &self.state, queries, Blank::new(1))
+        let workers = workers.max(1).min(MOST_WORKERS);
+        answer_all(rt, self.alloc, &self.state, queries, workers)
     }
 
     fn last(&self, client: ClientId) -> Result<Option<Kept>, NoMemory> {

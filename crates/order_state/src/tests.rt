@@ -4,7 +4,8 @@ ghost use Rattle.std.specs.Prelude.{◌≡◌, ◌<◌};
 
 use super::*;
 use kr_order::{
-    Answer, Batch, ClientId, Command, Entry, EventId, Kind, NoMemory, Pair, PushStop, Steps,
+    Answer, Asked, Batch, ClientId, Command, Entry, EventId, Kind, NoMemory, Pair, PushStop, Query,
+    Steps, Told,
 };
 use reach::{Asks, Scratch};
 use std::alloc::Global;
@@ -12,6 +13,7 @@ use std::marker::Brand;
 use std::process::Abort;
 use std::sync::ledger::{Blank, Ledger};
 use std::test::Fail;
+use std::thread::Threads;
 
 const MUST: Kind = Kind::Must;
 
@@ -259,5 +261,84 @@ fn a_dead_event_is_unknown_for_good(rt: HostRuntime) -> Result<(), Fail> {
     all_answers::<Brand>(&rt, alloc, &state, &rows, Blank::new(1))?;
     done(&rt, alloc, &mut state, 1, Command::Create, "created 2")?;
     assert_eq!(rt; (state.born(), state.held()), (2, 1));
+    Ok(())
+}
+
+// The board does this, as the next command of client 1.
+fn board_does(rt: &impl Abort, board: &mut PlainBoard, command: Command) -> Result<(), NoMemory> {
+    let count = board.count();
+    assert!(rt; count < 100);
+    let (client, seq) = (ClientId(1), count + 1);
+    board.apply(&Entry {
+        client,
+        seq,
+        command,
+    })?;
+    Ok(())
+}
+
+// A board of three events, 1 before 2 and 2 before 3, after four entries.
+fn chain(rt: &impl Abort, alloc: Global) -> Result<PlainBoard, Fail> {
+    let mut board = PlainBoard::new(alloc);
+    for _ in 0..3 {
+        board_does(rt, &mut board, Command::Create)?;
+    }
+    let command = assign(alloc, &[(1, MUST, 2), (2, MUST, 3)])?;
+    board_does(rt, &mut board, command)?;
+    Ok(board)
+}
+
+// The query of these pairs.
+fn query(alloc: Global, asked: &[(u64, u64)]) -> Result<Query, PushStop> {
+    let mut pairs = Asked::new(alloc);
+    for (a, b) in asked {
+        pairs.push((EventId(*a), EventId(*b)))?;
+    }
+    let (client, q, part) = (ClientId(1), 1, 1);
+    Ok(Query {
+        client,
+        q,
+        part,
+        pairs,
+    })
+}
+
+// These are the answers after four entries.
+fn is_told(rt: &impl Abort, told: &Told, answers: &[Answer]) {
+    assert_eq!(rt; told.entry, 4);
+    assert_eq!(rt; told.answers.as_slice(), answers);
+}
+
+fn ask<R: Threads + Sync + Abort>(
+    rt: &R,
+    alloc: Global,
+    board: &PlainBoard,
+    workers: u32,
+) -> Result<(), Fail> {
+    let queries = [
+        query(alloc, &[(1, 3), (3, 1), (1, 3), (1, 1)])?,
+        query(alloc, &[(3, 1), (1, 4), (1, 2)])?,
+    ];
+    let told = board.all(rt, &queries, workers)?;
+    assert_eq!(rt; told.len(), 2);
+    is_told(
+        rt,
+        &told[0],
+        &[Answer::Before, Answer::After, Answer::Before, Answer::Same],
+    );
+    is_told(
+        rt,
+        &told[1],
+        &[Answer::After, Answer::Unknown, Answer::Before],
+    );
+    Ok(())
+}
+
+#[test]
+fn queries_are_answered_one_after_the_other(rt: HostRuntime) -> Result<(), Fail> {
+    let board = chain(&rt, rt.alloc())?;
+    for workers in 0..10 {
+        ask(&rt, rt.alloc(), &board, workers)?;
+    }
     Ok(())
 }
