@@ -1,5 +1,5 @@
 -- Every step keeps the facts.
-use Rattle.std.proofs.Common.{◌≡◌, ℕ, ◌-◌, ◌≤◌, List, length, refl, sym, subst}
+use Rattle.std.proofs.Common.{◌≡◌, ℕ, ◌-◌, ◌≤◌, List, refl, sym, subst}
 use Rattle.std.specs.Prelude.{Bool, Option, None, Some}
 use Rattle.std.proofs.lemmas.Option.{none-some}
 use Rattle.kr_order.specs.declared.ids.ClientId.{ClientId}
@@ -15,7 +15,6 @@ use Rattle.kr_protocol.specs.Server.{Server}
 use Rattle.script_lang.specs.declared.script.Event.{Event}
 use Rattle.script_lang.specs.declared.script.Event.TheVariants.{Call, Query, Retry, Deliver, Lose, Tick, Work, Show}
 use Rattle.script_lang.specs.Event.{IsEvent}
-use Rattle.script_lang.specs.Script.{MayStand}
 use Rattle.kr_world.specs.declared.refusal.Refusal.{Refusal}
 use Rattle.kr_world.specs.World.{World, client_at, server_at, packet_at, marked}
 use Rattle.kr_world.specs.Step.{Outcome, call_refusal, query_refusal, client_calls, client_asks, arrives, delivers, loses, ticks, shows, act, refusal_of, unless, step}
@@ -25,10 +24,10 @@ use Rattle.kr_world.specs.Facts.{IsTrueMessage, IsTruePacket, AreFacts}
 use Rattle.kr_world.proofs.StepLemmas.{at_index, idle_client, may_ask, no_call, no_query}
 use Rattle.kr_world.proofs.BagLemmas.{delivered_sound}
 use Rattle.kr_world.proofs.FactLemmas.{marked_facts}
-use Rattle.kr_world.proofs.KeepLemmas.{turn_of, GoesOn, Keeps, tells_nothing, quiet_goes_on, goes_on_keeps, refused_keeps}
+use Rattle.kr_world.proofs.KeepLemmas.{turn_of, GoesOn, Keeps, tells_nothing, facts_after, quiet_goes_on, goes_on_keeps, refused_keeps}
 use Rattle.kr_world.proofs.ClientLemmas.{IsPresent}
 use Rattle.kr_world.proofs.CallLemmas.{call_keeps}
-use Rattle.kr_world.proofs.AskLemmas.{query_keeps}
+use Rattle.kr_world.proofs.AskLemmas.{query_goes_on}
 use Rattle.kr_world.proofs.RetryLemmas.{retry_goes_on}
 use Rattle.kr_world.proofs.HearLemmas.{hears_goes_on}
 use Rattle.kr_world.proofs.ServerLemmas.{takes_goes_on, works_go_on, ticks_go_on}
@@ -41,17 +40,16 @@ calls_keep past world caller command (Some client) low is none facts =
     let free = (idle_client world client none).idle in
     call_keeps past world caller command client (record { low = low; here = record { at = is; facts = facts }; no_command = no_call client free; no_query = no_query client free })
 
-queries_keep : (past : List Turn) (world : World) (caller : ClientId) (server : ServerId)
-    (pairs : List (EventId × EventId)) → 1 ≤ caller.0 → 1 ≤ length pairs → length world.servers ≡ 1
+queries_go_on : (past : List Turn) (world : World) (caller : ClientId) (server : ServerId)
+    (pairs : List (EventId × EventId))
     → query_refusal world (client_at world caller) (server_at world server) ≡ None → AreFacts past world
-    → Keeps past (turn_of world (Query caller server pairs) (client_asks world caller server pairs (client_at world caller)))
-queries_keep past world caller server pairs low some alone none facts =
+    → GoesOn past world (client_asks world caller server pairs (client_at world caller))
+queries_go_on past world caller server pairs none facts =
     let may = may_ask world (client_at world caller) (server_at world server) none in
     let client = may.client in
     let free = (idle_client world client may.may_call).idle in
     let here : IsPresent past world caller client = record { at = may.client_is; facts = facts } in
-    let kept = query_keeps past world caller server pairs client (record { low = low; here = here; no_command = no_call client free; some = some; alone = alone }) in
-    subst (λ found. Keeps past (turn_of world (Query caller server pairs) (client_asks world caller server pairs found))) (sym may.client_is) kept
+    subst (λ found. GoesOn past world (client_asks world caller server pairs found)) (sym may.client_is) (query_goes_on past world caller server pairs client here (no_call client free))
 
 -- a packet is delivered to its addressee
 arrives_goes_on : (past : List Turn) (world : World) (k : ℕ) (to : nodes.Node) (packet : Packet) → packet.to ≡ to
@@ -61,7 +59,7 @@ arrives_goes_on past world k Manager packet to at sound facts = quiet_goes_on pa
 arrives_goes_on past world k (AtClient client) packet to at sound facts =
     let known = at_index (IsTruePacket past world.history) world.bag (k - 1) packet facts.packets at in
     let its = subst (λ node. IsTrueMessage past world.history packet.from node packet.message) to known in
-    hears_goes_on past world k client packet (client_at world client) refl at to its facts
+    hears_goes_on past world client packet (client_at world client) refl its facts
 arrives_goes_on past world k (AtServer server) packet to at sound facts =
     let known = at_index (IsTruePacket past world.history) world.bag (k - 1) packet facts.packets at in
     let said = at_index (IsSoundPacket world.servers) world.bag (k - 1) packet sound.packets at in
@@ -92,34 +90,36 @@ shows_goes_on : (past : List Turn) (world : World) (id : ServerId) (found : Opti
     → GoesOn past world (shows world id found)
 shows_goes_on past world id None facts = quiet_goes_on past world world refl facts
 shows_goes_on past world id (Some server) facts =
-    record { taken = refl; facts = facts; tells = tells_nothing world (shows world id (Some server)) refl refl (IsPrefix-refl world.history) }
+    record {
+      taken = refl;
+      facts = facts_after past (shows world id (Some server)) facts;
+      tells = tells_nothing world (shows world id (Some server)) refl refl (IsPrefix-refl world.history);
+    }
 
 act_keeps : (past : List Turn) (world : World) (event : Event) → refusal_of world event ≡ None → IsEvent event
-    → MayStand (length world.servers) event → IsSound world → AreFacts past world
-    → Keeps past (turn_of world event (act world event))
-act_keeps past world (Call client command) none fit stands sound facts = calls_keep past world client command (client_at world client) fit.client_fits.low refl none facts
-act_keeps past world (Query client server pairs) none fit stands sound facts = queries_keep past world client server pairs fit.client_fits.low fit.some stands none facts
-act_keeps past world (Retry client server) none fit stands sound facts =
-    goes_on_keeps past world (Retry client server) _ (λ caller. refl) (λ caller. refl) (retry_goes_on past world client server (client_at world client) refl facts)
-act_keeps past world (Deliver k) none fit stands sound facts =
-    goes_on_keeps past world (Deliver k) _ (λ caller. refl) (λ caller. refl) (delivers_goes_on past world k (packet_at world k) refl sound facts)
-act_keeps past world (Lose k) none fit stands sound facts =
-    goes_on_keeps past world (Lose k) (loses world k) (λ caller. refl) (λ caller. refl) (quiet_goes_on past world _ refl (marked_facts past world (marked world.lost k) world.delivered facts))
-act_keeps past world (Tick who) none fit stands sound facts =
-    goes_on_keeps past world (Tick who) _ (λ caller. refl) (λ caller. refl) (ticks_goes_on past world who sound facts)
-act_keeps past world (Work server workers) none fit stands sound facts =
-    goes_on_keeps past world (Work server workers) _ (λ caller. refl) (λ caller. refl) (works_go_on past world server (server_at world server) refl sound facts)
-act_keeps past world (Show server) none fit stands sound facts =
-    goes_on_keeps past world (Show server) _ (λ caller. refl) (λ caller. refl) (shows_goes_on past world server (server_at world server) facts)
+    → IsSound world → AreFacts past world → Keeps past (turn_of world event (act world event))
+act_keeps past world (Call client command) none fit sound facts = calls_keep past world client command (client_at world client) fit.client_fits.low refl none facts
+act_keeps past world (Query client server pairs) none fit sound facts =
+    goes_on_keeps past world (Query client server pairs) _ (λ caller. refl) (queries_go_on past world client server pairs none facts)
+act_keeps past world (Retry client server) none fit sound facts =
+    goes_on_keeps past world (Retry client server) _ (λ caller. refl) (retry_goes_on past world client server (client_at world client) refl facts)
+act_keeps past world (Deliver k) none fit sound facts =
+    goes_on_keeps past world (Deliver k) _ (λ caller. refl) (delivers_goes_on past world k (packet_at world k) refl sound facts)
+act_keeps past world (Lose k) none fit sound facts =
+    goes_on_keeps past world (Lose k) (loses world k) (λ caller. refl) (quiet_goes_on past world _ refl (marked_facts past world (marked world.lost k) world.delivered facts))
+act_keeps past world (Tick who) none fit sound facts =
+    goes_on_keeps past world (Tick who) _ (λ caller. refl) (ticks_goes_on past world who sound facts)
+act_keeps past world (Work server workers) none fit sound facts =
+    goes_on_keeps past world (Work server workers) _ (λ caller. refl) (works_go_on past world server (server_at world server) refl sound facts)
+act_keeps past world (Show server) none fit sound facts =
+    goes_on_keeps past world (Show server) _ (λ caller. refl) (shows_goes_on past world server (server_at world server) facts)
 
 step_cases : (past : List Turn) (world : World) (event : Event) (refusal : Option Refusal)
-    → refusal_of world event ≡ refusal → IsEvent event → MayStand (length world.servers) event → IsSound world
-    → AreFacts past world → Keeps past (turn_of world event (unless world refusal (act world event)))
-step_cases past world event None is fit stands sound facts = act_keeps past world event is fit stands sound facts
-step_cases past world event (Some why) is fit stands sound facts = refused_keeps past world event why facts
+    → refusal_of world event ≡ refusal → IsEvent event → IsSound world → AreFacts past world → Keeps past (turn_of world event (unless world refusal (act world event)))
+step_cases past world event None is fit sound facts = act_keeps past world event is fit sound facts
+step_cases past world event (Some why) is fit sound facts = refused_keeps past world event why facts
 
 -- every step keeps the facts
-pub step_keeps : (past : List Turn) (world : World) (event : Event) → IsEvent event
-    → MayStand (length world.servers) event → IsSound world → AreFacts past world
-    → Keeps past (turn_of world event (step world event))
-step_keeps past world event fit stands sound facts = step_cases past world event (refusal_of world event) refl fit stands sound facts
+pub step_keeps : (past : List Turn) (world : World) (event : Event) → IsEvent event → IsSound world
+    → AreFacts past world → Keeps past (turn_of world event (step world event))
+step_keeps past world event fit sound facts = step_cases past world event (refusal_of world event) refl fit sound facts

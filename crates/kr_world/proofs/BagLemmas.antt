@@ -22,7 +22,6 @@ lost_sound world k sound =
       last_holds = sound.last_holds;
       packets = sound.packets;
       calls = sound.calls;
-      queries = sound.queries;
       bag = sound.bag;
       lost = length-set world.lost (k - 1) true ∙ sound.lost;
       delivered = sound.delivered;
@@ -40,7 +39,6 @@ delivered_sound world k sound =
       last_holds = sound.last_holds;
       packets = sound.packets;
       calls = sound.calls;
-      queries = sound.queries;
       bag = sound.bag;
       lost = sound.lost;
       delivered = length-set world.delivered (k - 1) true ∙ sound.delivered;
@@ -61,10 +59,6 @@ pub calls_under :
     → All (λ c. c.seq ≤ m) clients
     → All (λ c. c.seq ≤ n) clients
 calls_under clients m n le all = All-weaker (λ c. c.seq ≤ m) (λ c. c.seq ≤ n) (λ c h. omega arith) clients all
-
--- and the queries
-pub queries_under : (clients : List Client) (m n : ℕ) → m ≤ n → All (λ c. c.q ≤ m) clients → All (λ c. c.q ≤ n) clients
-queries_under clients m n le all = All-weaker (λ c. c.q ≤ m) (λ c. c.q ≤ n) (λ c h. omega arith) clients all
 
 -- a server that has no part in a step stays sound, where it has still no more than the server before it
 pub other_later :
@@ -107,7 +101,6 @@ packets_sound world packets said room sound =
       last_holds = sound.last_holds;
       packets = All-append (IsSoundPacket world.servers) world.bag packets sound.packets said;
       calls = calls_under world.clients (length world.bag) (length bag) under sound.calls;
-      queries = queries_under world.clients (length world.bag) (length bag) under sound.queries;
       bag = omega arith;
       lost = marks_more world.lost world.bag packets sound.lost;
       delivered = marks_more world.delivered world.bag packets sound.delivered;
@@ -117,10 +110,9 @@ packets_sound world packets said room sound =
 pub client_sound :
     (world : World) (id : ClientId) (after : Client)
     → after.seq ≤ length world.bag
-    → after.q ≤ length world.bag
     → IsSound world
     → IsSound (record world { clients = slice_set world.clients (id.0 - 1) after })
-client_sound world id after seq q sound =
+client_sound world id after seq sound =
     record {
       views = sound.views;
       some = sound.some;
@@ -128,7 +120,6 @@ client_sound world id after seq q sound =
       last_holds = sound.last_holds;
       packets = sound.packets;
       calls = All-set (λ c. c.seq ≤ length world.bag) world.clients (id.0 - 1) after seq sound.calls;
-      queries = All-set (λ c. c.q ≤ length world.bag) world.clients (id.0 - 1) after q sound.queries;
       bag = sound.bag;
       lost = sound.lost;
       delivered = sound.delivered;

@@ -1,5 +1,5 @@
 -- A client's call keeps the facts.
-use Rattle.std.proofs.Common.{◌≡◌, ℕ, ◌+◌, ◌-◌, ◌≤◌, List, [], ◌∷◌, ◌++◌, length, refl, sym, ap, ◌∙◌, subst, arith, inl, inr}
+use Rattle.std.proofs.Common.{◌≡◌, ◌+◌, ◌-◌, ◌≤◌, List, [], ◌∷◌, ◌++◌, length, refl, sym, ap, ◌∙◌, subst, arith, inl, inr}
 use Rattle.std.specs.Prelude.{None, Some, slice_get, slice_set}
 use Rattle.std.proofs.lemmas.Bool.{cases_eq}
 use Rattle.std.proofs.lemmas.List.{length_push}
@@ -14,14 +14,14 @@ use Rattle.kr_world.specs.World.{World}
 use Rattle.kr_world.specs.Step.{client_sends}
 use Rattle.kr_world.specs.Run.{Turn}
 use Rattle.kr_world.specs.Lawful.{begun_by, entries_of}
-use Rattle.kr_world.specs.Facts.{HasBegun, IsTruePacket, IsTrueClient, AreFacts, asked_by}
+use Rattle.kr_world.specs.Facts.{HasBegun, IsTruePacket, IsTrueClient, AreFacts}
 use Rattle.kr_world.proofs.ListFacts.{slice_get_at}
-use Rattle.kr_world.proofs.PastLemmas.{begun_by-push, begun_same, asked_same, others_begin, caller_begins}
+use Rattle.kr_world.proofs.PastLemmas.{begun_by-push, begun_same, others_begin, caller_begins}
 use Rattle.kr_world.proofs.PacketLemmas.{same_client}
-use Rattle.kr_world.proofs.FactLemmas.{begun_facts, sent_facts}
+use Rattle.kr_world.proofs.FactLemmas.{one_facts, sent_facts}
+use Rattle.kr_world.proofs.QueryLemmas.{stays, queries_move}
 use Rattle.kr_world.proofs.KeepLemmas.{turn_of, Keeps, tells_nothing}
-use Rattle.kr_world.proofs.ClientLemmas.{IsPresent, its_facts, own_id, other_id}
-use Rattle.kr_world.proofs.FreshLemmas.{request_fresh}
+use Rattle.kr_world.proofs.ClientLemmas.{IsPresent, its_facts, own_id, other_id, set_own}
 
 -- a client that may begin a command
 pub record MayCall (past : List Turn) (world : World) (caller : ClientId) (client : Client) : Type 0 where
@@ -62,7 +62,7 @@ newly_begun past world caller command client may =
 -- the client with its open call
 caller_later : (past : List Turn) (world : World) (caller : ClientId) (command : Command) (client : Client)
     → MayCall past world caller client
-    → IsTrueClient (past ++ call_turn world caller command client ∷ []) world.history world.bag (caller.0 - 1) (begins client command).after
+    → IsTrueClient (past ++ call_turn world caller command client ∷ []) world.history (caller.0 - 1) (begins client command).after
 caller_later past world caller command client may =
     let turn = call_turn world caller command client in
     let later = past ++ turn ∷ [] in
@@ -70,6 +70,9 @@ caller_later past world caller command client may =
     let seq = known.seq in
     let old = known.old in
     let begun = newly_begun past world caller command client may in
+    let after = (begins client command).after in
+    let id = known.id in
+    let at = set_own past world caller client after may.here refl in
     record {
       id = known.id;
       seq = omega (arith, ap length (begun_own past world caller command client may), length_push (begun_by client.id past) command);
@@ -77,8 +80,8 @@ caller_later past world caller command client may =
       idle = λ none. absurd (none-some command (sym none));
       within = known.within;
       old = omega arith;
-      q = known.q ∙ sym (ap length (asked_same client.id past turn refl));
-      query = λ pairs is. absurd (none-some pairs (sym may.no_query ∙ is));
+      queries = queries_move past turn client after refl (omega arith) (stays refl refl refl refl) at (λ pairs is. absurd (none-some pairs (sym may.no_query ∙ is))) known.queries;
+      cache = known.cache;
     }
 
 -- of what each client has begun at most the last is not in the history
@@ -108,11 +111,7 @@ called_facts : (past : List Turn) (world : World) (caller : ClientId) (command :
 called_facts past world caller command client may =
     let turn = call_turn world caller command client in
     let facts = may.here.facts in
-    let alone = λ (other : ClientId) (some : 1 ≤ length (asked_by other (past ++ turn ∷ []))). facts.alone other (subst (λ asked. 1 ≤ length asked) (asked_same other past turn refl) some) in
-    begun_facts past turn world (caller.0 - 1) (begins client command).after (still_one_open past world caller command client may) alone (λ j other different there. record {
-      commands = others_begin caller other.id command (other_id past world caller facts may.low j other different there);
-      queries = refl;
-    }) (caller_later past world caller command client may) facts
+    one_facts past turn world (caller.0 - 1) (begins client command).after refl (still_one_open past world caller command client may) (λ j other different there. others_begin caller other.id command (other_id past world caller facts may.low j other different there)) (caller_later past world caller command client may) facts
 
 pub call_keeps : (past : List Turn) (world : World) (caller : ClientId) (command : Command) (client : Client)
     → MayCall past world caller client → Keeps past (call_turn world caller command client)
@@ -121,8 +120,7 @@ call_keeps past world caller command client may =
     let calling = record world { clients = slice_set world.clients (caller.0 - 1) (begins client command).after } in
     let Truly = IsTruePacket later world.history in
     let said = All-cons Truly _ [] (newly_begun past world caller command client may) (All-nil Truly) in
-    let fresh = λ (i : ℕ) (other : Client) (there : slice_get calling.clients i ≡ Some other). request_fresh other.id other.q other.seen _ _ (client.seq + 1) command in
     record {
-      facts = sent_facts later calling (begins client command).sent said fresh (called_facts past world caller command client may);
+      facts = sent_facts later calling (begins client command).sent said (called_facts past world caller command client may);
       tells = tells_nothing world (client_sends world caller (begins client command)) refl refl (IsPrefix-refl world.history);
     }

@@ -9,8 +9,6 @@ use Rattle.kr_order.specs.declared.ids.ClientId.{ClientId}
 use Rattle.kr_order.specs.declared.history.Command.{Command}
 use Rattle.kr_order.specs.declared.history.Entry.{Entry}
 use Rattle.kr_order.specs.declared.history.Placed.{Placed}
-use Rattle.kr_order.specs.declared.message.Packet.{Packet}
-use Rattle.kr_order.proofs.PrefixLemmas.{IsPrefix-refl}
 use Rattle.kr_protocol.specs.Client.{Client, closes}
 use Rattle.kr_world.specs.World.{World, client_at}
 use Rattle.kr_world.specs.Step.{client_hears}
@@ -20,7 +18,10 @@ use Rattle.kr_world.specs.Facts.{StandsAt, IsTrueClient, open_calls}
 use Rattle.kr_world.proofs.ListFacts.{split_at, take_with}
 use Rattle.kr_world.proofs.EntryLemmas.{entries_of-own, entries_of-front, numbered_at, numbered_count}
 use Rattle.kr_world.proofs.PacketLemmas.{told_truly}
-use Rattle.kr_world.proofs.FactLemmas.{heard_facts}
+use Rattle.kr_world.proofs.PastLemmas.{IsApart, begun_same}
+use Rattle.kr_world.proofs.QueryLemmas.{ends, queries_move, no_asking}
+use Rattle.kr_world.proofs.RememberLemmas.{items_seen}
+use Rattle.kr_world.proofs.HeardLemmas.{says_nothing, heard_goes_on}
 use Rattle.kr_world.proofs.KeepLemmas.{IsNewReply, IsNewPart, GoesOn}
 use Rattle.kr_world.proofs.ClientLemmas.{IsPresent, its_facts, own_id}
 
@@ -59,24 +60,29 @@ is_news begun history caller seq seen placed stands numbered counted old =
     }
 
 -- a client with the reply of its open call, which closes it
-closed_true : (past : List Turn) (history : List Entry) (bag : List Packet) (i : ℕ) (client : Client)
-    (command : Command) (placed : Placed) → client.call ≡ Some command
-    → IsNews history client.id client.seq client.seen placed.place → IsTrueClient past history bag i client
-    → IsTrueClient past history bag i (closes client placed).after
-closed_true past history bag i client command placed called news known =
+closed_true : (past : List Turn) (turn : Turn) (history : List Entry) (i : ℕ) (client : Client) (command : Command)
+    (placed : Placed) → client.call ≡ Some command
+    → IsNews history client.id client.seq client.seen placed.place → IsApart turn client.id
+    → client_at turn.outcome.after client.id ≡ Some (closes client placed).after → IsTrueClient past history i client
+    → IsTrueClient (past ++ turn ∷ []) history i (closes client placed).after
+closed_true past turn history i client command placed called news apart at known =
+    let after = (closes client placed).after in
+    let id = known.id in
     let past_seen = news.past_seen in
     let within = news.within in
     let now = news.now in
+    let seq : client.seq ≡ length (begun_by client.id (past ++ turn ∷ [])) = known.seq ∙ sym (ap length (begun_same client.id past turn apart)) in
     let last : placed.place ≡ max client.seen placed.place = omega arith in
+    let none = no_asking past client known.queries (λ is. none-some command (sym is ∙ called)) in
     record {
       id = known.id;
-      seq = known.seq;
+      seq = seq;
       command = λ other none. absurd (none-some other none);
       idle = λ none. news.all;
       within = omega arith;
       old = subst (λ n. length (entries_of client.id (take n history)) + 0 ≤ client.seq) last (omega arith);
-      q = known.q;
-      query = λ pairs asking. absurd (none-some command (sym (known.query pairs asking).alone ∙ called));
+      queries = queries_move past turn client after refl (omega arith) (ends refl none) at (λ pairs asking. refl) known.queries;
+      cache = items_seen history client.seen after.seen client.cache (omega arith) known.cache;
     }
 
 pub closes_goes_on : (past : List Turn) (world : World) (id : ClientId) (client : Client) (command : Command)
@@ -92,13 +98,10 @@ closes_goes_on past world id client command placed here called stands =
     let news = is_news (begun_by client.id past) history client.id client.seq client.seen placed its numbered known.seq (omega arith) in
     let unseen : seen_of (client_at world id) < placed.place = subst (λ found. seen_of found < placed.place) (sym here.at) news.past_seen in
     let New = IsNewReply world history in
-    let after = closed_true past history world.bag (id.0 - 1) client command placed called news known in
-    record {
-      taken = refl;
-      facts = heard_facts past world (id.0 - 1) (closes client placed).after after here.facts;
-      tells = record {
-        grows = IsPrefix-refl history;
-        told = All-cons New _ [] (told_truly history (seen_of (client_at world id)) id client.seq placed stands unseen) (All-nil New);
-        parts = All-nil (IsNewPart world history);
-      };
-    }
+    heard_goes_on past world id client (closes client placed) here (record {
+      same = refl;
+      known = λ turn apart at. closed_true past turn history (id.0 - 1) client command placed called news apart at known;
+      says = says_nothing;
+      told = All-cons New _ [] (told_truly history (seen_of (client_at world id)) id client.seq placed stands unseen) (All-nil New);
+      parts = All-nil (IsNewPart world history);
+    })

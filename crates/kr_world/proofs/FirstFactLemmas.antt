@@ -9,11 +9,11 @@ use Rattle.kr_order.specs.Numbers.{numbers_to}
 use Rattle.kr_protocol.specs.Client.{Client, new_client}
 use Rattle.kr_protocol.specs.Server.{Server, founder}
 use Rattle.kr_world.specs.World.{first_world}
-use Rattle.kr_world.specs.Facts.{IsTrueQuery, IsTrueServer, IsTruePacket, IsTrueClient, AreFacts}
+use Rattle.kr_world.specs.Facts.{IsTrueQuery, IsTrueServer, IsTruePacket, WasNoLater, IsTrueItem, IsTrueClient, AreFacts}
 use Rattle.kr_world.proofs.ListFacts.{all_of}
 use Rattle.kr_world.proofs.ViewLemmas.{made_at}
 
-new_client_true : (view : View) (i : ℕ) → IsTrueClient [] [] [] i (new_client view (record { 0 = i + 1 }))
+new_client_true : (view : View) (i : ℕ) → IsTrueClient [] [] i (new_client view (record { 0 = i + 1 }))
 new_client_true view i =
     record {
       id = refl;
@@ -22,21 +22,25 @@ new_client_true view i =
       idle = λ none. refl;
       within = omega arith;
       old = omega arith;
-      q = refl;
-      query = λ pairs asking. absurd (none-some pairs asking);
+      queries = record {
+        alone = λ pairs asking. refl;
+        asked = λ pairs asking. absurd (none-some pairs asking);
+        last = All-nil (WasNoLater (new_client view (record { 0 = i + 1 })));
+      };
+      cache = All-nil (IsTrueItem [] 0);
     }
 
 new_client_at : (view : View) (n i : ℕ) (client : Client)
     → slice_get (map (λ m. new_client view (record { 0 = m })) (numbers_to n)) i ≡ Some client
-    → IsTrueClient [] [] [] i client
+    → IsTrueClient [] [] i client
 new_client_at view n i client there =
     let make : ℕ → Client = λ m. new_client view (record { 0 = m }) in
-    subst (IsTrueClient [] [] [] i) (made_at make n i client there).1 (new_client_true view i)
+    subst (IsTrueClient [] [] i) (made_at make n i client there).1 (new_client_true view i)
 
-founder_true : (view : View) (m : ℕ) → IsTrueServer [] (founder view (record { 0 = m }))
+founder_true : (view : View) (m : ℕ) → IsTrueServer [] [] (founder view (record { 0 = m }))
 founder_true view m =
     record {
-      waiting = All-nil (IsTrueQuery []);
+      waiting = All-nil (IsTrueQuery [] []);
       log = record { callers = All-nil (λ entry. 1 ≤ entry.client.0); numbered = λ caller k entry is. absurd (none-some entry is) };
     }
 
@@ -48,6 +52,5 @@ first_facts servers clients =
       packets = All-nil (IsTruePacket [] []);
       in_step = record { numbered = λ caller k entry is. absurd (none-some entry is); one_open = λ caller. omega arith };
       clients = new_client_at view clients;
-      servers = All-map (IsTrueServer []) make (numbers_to servers) (all_of (λ m. IsTrueServer [] (make m)) (founder_true view) (numbers_to servers));
-      alone = λ caller some. absurd (omega arith);
+      servers = All-map (IsTrueServer [] []) make (numbers_to servers) (all_of (λ m. IsTrueServer [] [] (make m)) (founder_true view) (numbers_to servers));
     }

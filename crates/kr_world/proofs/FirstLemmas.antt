@@ -47,7 +47,6 @@ first_is_sound servers clients some =
       last_holds = λ last id server current is there. IsPrefix-nil server.log;
       packets = All-nil (IsSoundPacket (founders servers));
       calls = All-map (λ c. c.seq ≤ 0) make (numbers_to clients) (all_of (λ m. (make m).seq ≤ 0) (λ m. omega arith) (numbers_to clients));
-      queries = All-map (λ c. c.q ≤ 0) make (numbers_to clients) (all_of (λ m. (make m).q ≤ 0) (λ m. omega arith) (numbers_to clients));
       bag = omega arith;
       lost = refl;
       delivered = refl;

@@ -92,15 +92,15 @@ gains_lawful past world id server came more moment sound known (gains_command cl
     entered_lawful past world id server entry moment known newer
 gains_lawful past world id server came more moment sound known (gains_entries from to first entries is) =
     let said : AreInLog world.servers from first entries = sound in
-    let its = at_index (IsTrueServer past) world.servers (from.0 - 1) said.sender moment.facts.servers said.there in
+    let its = at_index (IsTrueServer past world.history) world.servers (from.0 - 1) said.sender moment.facts.servers said.there in
     let longer = append_below world id server from first entries moment.seat said is in
     front_lawful past (server.log ++ missing server.log first entries) said.sender.log longer its.log
 
 -- and whatever queries wait, they were asked
 pub waits_asked : (past : List Turn) (history : List Entry) (server : Server) (came : Option Packet)
-    (waiting : List Query) → IsTrueServer past server → IsTrueCame past history came → Waits server came waiting
-    → All (IsTrueQuery past) waiting
+    (waiting : List Query) → IsTrueServer past history server → IsTrueCame past history came
+    → Waits server came waiting → All (IsTrueQuery past history) waiting
 waits_asked past history server came waiting own known (waits_on any) = own.waiting
 waits_asked past history server came waiting own known (waits_more client to q part pairs room) =
-    All-push (IsTrueQuery past) server.waiting (record { client = client; q = q; part = part; pairs = pairs }) own.waiting known
-waits_asked past history server came waiting own known (waits_none any) = All-nil (IsTrueQuery past)
+    All-push (IsTrueQuery past history) server.waiting (record { client = client; q = q; part = part; pairs = pairs }) own.waiting known
+waits_asked past history server came waiting own known (waits_none any) = All-nil (IsTrueQuery past history)

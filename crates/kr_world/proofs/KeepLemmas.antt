@@ -1,5 +1,5 @@
 -- What a step keeps: it leaves the facts, lets the history grow, and what it tells is true and new.
-use Rattle.std.proofs.Common.{◌≡◌, List, [], ◌∷◌, ◌++◌, refl, subst}
+use Rattle.std.proofs.Common.{◌≡◌, List, [], ◌∷◌, ◌++◌, refl, ap, subst}
 use Rattle.std.specs.Prelude.{None, All}
 use Rattle.std.proofs.lemmas.List.Elements.{All-nil}
 use Rattle.kr_order.specs.declared.ids.ClientId.{ClientId}
@@ -12,8 +12,8 @@ use Rattle.kr_world.specs.World.{World, client_at}
 use Rattle.kr_world.specs.Step.{Told, Part, Outcome, quiet, refuses}
 use Rattle.kr_world.specs.Run.{Turn}
 use Rattle.kr_world.specs.Lawful.{IsToldTruly, begins_by, seen_of}
-use Rattle.kr_world.specs.Facts.{IsToldPart, AreFacts, asks_by}
-use Rattle.kr_world.proofs.PastLemmas.{BeginsNone, refused_begins, refused_asks}
+use Rattle.kr_world.specs.Facts.{IsToldPart, AreFacts}
+use Rattle.kr_world.proofs.PastLemmas.{BeginsNone, refused_begins}
 use Rattle.kr_world.proofs.FactLemmas.{later_facts}
 
 -- the turn that an event makes
@@ -34,10 +34,10 @@ pub record TellsTruly (world : World) (outcome : Outcome) : Type 0 where
   pub told : All (IsNewReply world outcome.after.history) outcome.told
   pub parts : All (IsNewPart world outcome.after.history) outcome.parts
 
--- what a step does that is not refused and begins nothing: it keeps the facts, and tells the truth
+-- what a step does that is not refused and begins no command: it keeps the facts, and tells the truth
 pub record GoesOn (past : List Turn) (world : World) (outcome : Outcome) : Type 0 where
   pub taken : outcome.refused ≡ None
-  pub facts : AreFacts past outcome.after
+  pub facts : (turn : Turn) → turn.outcome ≡ outcome → BeginsNone turn → AreFacts (past ++ turn ∷ []) outcome.after
   pub tells : TellsTruly world outcome
 
 -- a step after these steps keeps the facts, and tells the truth
@@ -56,28 +56,35 @@ tells_nothing world outcome none no_parts front =
       parts = rw no_parts (All-nil (IsNewPart world history));
     }
 
+-- the facts of what a step leaves are there after it
+pub facts_after : (past : List Turn) (outcome : Outcome) → AreFacts past outcome.after → (turn : Turn)
+    → turn.outcome ≡ outcome → BeginsNone turn → AreFacts (past ++ turn ∷ []) outcome.after
+facts_after past outcome facts turn same none = later_facts past turn outcome.after none (ap (λ (o : Outcome). o.after.clients) same) facts
+
 -- what changes no history and tells nothing goes on
 pub quiet_goes_on : (past : List Turn) (world after : World) → world.history ≡ after.history → AreFacts past after
     → GoesOn past world (quiet after)
 quiet_goes_on past world after same facts =
-    record { taken = refl; facts = facts; tells = tells_nothing world (quiet after) refl refl (subst (IsPrefix world.history) same (IsPrefix-refl world.history)) }
-
--- a step in which nothing begins
-none_keeps : (past : List Turn) (turn : Turn) → BeginsNone turn → AreFacts past turn.outcome.after
-    → TellsTruly turn.before turn.outcome → Keeps past turn
-none_keeps past turn none facts tells = record { facts = later_facts past turn turn.outcome.after none facts; tells = tells }
+    record {
+      taken = refl;
+      facts = facts_after past (quiet after) facts;
+      tells = tells_nothing world (quiet after) refl refl (subst (IsPrefix world.history) same (IsPrefix-refl world.history));
+    }
 
 pub goes_on_keeps : (past : List Turn) (world : World) (event : Event) (outcome : Outcome)
     → ((caller : ClientId) → begins_by caller event None ≡ [])
-    → ((caller : ClientId) → asks_by caller event None ≡ []) → GoesOn past world outcome
-    → Keeps past (turn_of world event outcome)
-goes_on_keeps past world event outcome commands queries on =
-    let none : BeginsNone (turn_of world event outcome) = record { apart = λ caller. record { commands = rw on.taken (commands caller); queries = rw on.taken (queries caller) } } in
-    none_keeps past (turn_of world event outcome) none on.facts on.tells
+    → GoesOn past world outcome → Keeps past (turn_of world event outcome)
+goes_on_keeps past world event outcome commands on =
+    let turn = turn_of world event outcome in
+    let none : BeginsNone turn = record { apart = λ caller. rw on.taken (commands caller) } in
+    record { facts = on.facts turn refl none; tells = on.tells }
 
 pub refused_keeps : (past : List Turn) (world : World) (event : Event) (why : Refusal) → AreFacts past world
     → Keeps past (turn_of world event (refuses world why))
 refused_keeps past world event why facts =
     let turn = turn_of world event (refuses world why) in
-    let none : BeginsNone turn = record { apart = λ caller. record { commands = refused_begins caller event why; queries = refused_asks caller event why } } in
-    none_keeps past turn none facts (tells_nothing world (refuses world why) refl refl (IsPrefix-refl world.history))
+    let none : BeginsNone turn = record { apart = λ caller. refused_begins caller event why } in
+    record {
+      facts = later_facts past turn world none refl facts;
+      tells = tells_nothing world (refuses world why) refl refl (IsPrefix-refl world.history);
+    }

@@ -1,5 +1,5 @@
 -- Every run is lawful.
-use Rattle.std.proofs.Common.{zero, suc, ◌≡◌, ℕ, ◌≤◌, List, [], ◌∷◌, ◌++◌, length, take, sym, ◌∙◌, subst, arith}
+use Rattle.std.proofs.Common.{zero, suc, ◌≡◌, ℕ, ◌≤◌, List, [], ◌∷◌, ◌++◌, take, sym, ◌∙◌, subst, arith}
 use Rattle.std.specs.Prelude.{Some, slice_get, All}
 use Rattle.std.proofs.lemmas.List.{append-nil, append_assoc}
 use Rattle.std.proofs.lemmas.List.Elements.{All-head, All-tail, All-weaker}
@@ -10,18 +10,14 @@ use Rattle.kr_order.proofs.PairsLemmas.{order_acyclic}
 use Rattle.script_lang.specs.declared.script.Event.{Event}
 use Rattle.script_lang.specs.declared.script.Script.{Script}
 use Rattle.script_lang.specs.Event.{IsEvent}
-use Rattle.script_lang.specs.Script.{MayStand, IsScript}
+use Rattle.script_lang.specs.Script.{IsScript}
 use Rattle.kr_world.specs.World.{World, first_world}
 use Rattle.kr_world.specs.Step.{step}
 use Rattle.kr_world.specs.Run.{Turn, run_from, run_of}
 use Rattle.kr_world.specs.Sound.{IsSound}
 use Rattle.kr_world.specs.Lawful.{IsNumbered, IsPartTrue, RunsAreLawful, begun_by, entries_of, history_after}
 use Rattle.kr_world.specs.Facts.{AreFacts}
-use Rattle.kr_order.specs.View.{first_view}
-use Rattle.kr_protocol.specs.Server.{Server, founder}
-use Rattle.kr_world.proofs.ViewLemmas.{length-made}
 use Rattle.kr_world.proofs.ListFacts.{take_with}
-use Rattle.kr_world.proofs.CountLemmas.{same_count}
 use Rattle.kr_world.proofs.SoundLemmas.{worlds_sound}
 use Rattle.kr_world.proofs.PartLemmas.{IsPassedOn, part_true}
 use Rattle.kr_world.proofs.KeepLemmas.{turn_of, IsNewPart, Keeps}
@@ -31,7 +27,6 @@ use Rattle.kr_world.proofs.FirstFactLemmas.{first_facts}
 -- a run may go on by these events from this world, after these steps
 record MayGoOn (past : List Turn) (world : World) (events : List Event) : Type 0 where
   each : All IsEvent events
-  stand : All (MayStand (length world.servers)) events
   sound : IsSound world
   facts : AreFacts past world
 
@@ -42,16 +37,15 @@ first_turn world event = turn_of world event (step world event)
 first_kept : (past : List Turn) (world : World) (event : Event) (events : List Event)
     → MayGoOn past world (event ∷ events) → Keeps past (first_turn world event)
 first_kept past world event events may =
-    step_keeps past world event (All-head IsEvent event events may.each) (All-head (MayStand (length world.servers)) event events may.stand) may.sound may.facts
+    step_keeps past world event (All-head IsEvent event events may.each) may.sound may.facts
 
--- and the others after it, of which as many servers know as before
+-- and the others after it
 goes_on : (past : List Turn) (world : World) (event : Event) (events : List Event)
     → MayGoOn past world (event ∷ events)
     → MayGoOn (past ++ first_turn world event ∷ []) (step world event).after events
 goes_on past world event events may =
     record {
       each = All-tail IsEvent event events may.each;
-      stand = subst (λ n. All (MayStand n) events) (sym (same_count world event)) (All-tail (MayStand (length world.servers)) event events may.stand);
       sound = worlds_sound.later world event may.sound;
       facts = (first_kept past world event events may).facts;
     }
@@ -100,10 +94,8 @@ run_grows past world (event ∷ events) may (suc i) (suc j) earlier later le is 
 -- the run of a script may go on from its first world
 may_begin : (script : Script) → IsScript script → MayGoOn [] (first_world script.servers script.clients) script.events
 may_begin script fit =
-    let found : ℕ → Server = λ m. founder (first_view script.servers) (record { 0 = m }) in
     record {
       each = fit.each;
-      stand = subst (λ n. All (MayStand n) script.events) (sym (length-made found script.servers)) fit.stand;
       sound = worlds_sound.first script.servers script.clients fit.size.servers_fit.low;
       facts = first_facts script.servers script.clients;
     }

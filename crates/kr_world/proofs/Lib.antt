@@ -18,15 +18,17 @@ pub mod FactLemmas
 pub mod FineLemmas
 pub mod FirstFactLemmas
 pub mod FirstLemmas
-pub mod FreshLemmas
 pub mod FullBagLemmas
 pub mod GainLemmas
 pub mod HandlerLemmas
 pub mod HearLemmas
+pub mod HeardLemmas
 pub mod KeepLemmas
 pub mod LawfulLemmas
 pub mod ListFacts
 pub mod LongestLemmas
+pub mod QueryLemmas
+pub mod RememberLemmas
 pub mod PacketLemmas
 pub mod PartLemmas
 pub mod PastLemmas
@@ -42,6 +44,7 @@ pub mod ServerStepLemmas
 pub mod ShapeLemmas
 pub mod SoundLemmas
 pub mod StepLemmas
+pub mod SureLemmas
 pub mod TurnLemmas
 pub mod ViewLemmas
 pub mod WithinLemmas

@@ -13,17 +13,19 @@ use Rattle.kr_order.specs.declared.message.Node.TheVariants.{Manager, Client as 
 use Rattle.kr_order.specs.declared.message.Message.{Message}
 use Rattle.kr_order.specs.declared.message.Message.TheVariants.{Request, Replied, Ask, Answered}
 use Rattle.kr_order.specs.declared.message.Packet.{Packet}
+use Rattle.kr_order.specs.declared.answer.Query.{Query}
 use Rattle.kr_order.specs.declared.answer.Told.{Told}
 use Rattle.kr_order.specs.declared.ids.EventId.{EventId}
 use Rattle.kr_order.specs.Prefix.{IsPrefix}
 use Rattle.kr_order.specs.Reply.{reply_to}
 use Rattle.kr_order.specs.Answer.{answers_after}
-use Rattle.kr_protocol.specs.Server.{Server}
+use Rattle.kr_protocol.specs.Server.{Server, told_by}
 use Rattle.kr_world.specs.Run.{Turn}
 use Rattle.kr_world.specs.Lawful.{IsNumbered, IsToldTruly, begun_by, entries_of}
-use Rattle.kr_world.specs.Facts.{HasBegun, HasAsked, AreAnswers, StandsAt, IsTrueRequest, IsTrueReply, IsTrueAsk, IsTrueAnswer, IsTrueMessage, IsTruePacket, IsTrueQuery, IsLawfulLog, IsTrueServer, asked_by}
+use Rattle.kr_world.specs.Facts.{HasBegun, IsAsked, AreAnswers, StandsAt, IsTrueRequest, IsTrueReply, IsTrueAsk, IsTrueAnswer, IsTrueMessage, IsTruePacket, IsTrueQuery, IsLawfulLog, IsTrueServer}
 use Rattle.kr_world.proofs.ListFacts.{slice_get_left, slice_get_at}
-use Rattle.kr_world.proofs.PastLemmas.{begun_by-append, asked_by-append}
+use Rattle.kr_world.proofs.PastLemmas.{begun_by-append}
+use Rattle.kr_world.proofs.QueryLemmas.{asked_later}
 use Rattle.kr_world.proofs.EntryLemmas.{numbered_more}
 
 pub same_client : (a b : ClientId) → a.0 ≡ b.0 → a ≡ b
@@ -53,26 +55,26 @@ stands_later history more caller seq placed known =
       reply = known.reply ∙ ap (λ h. reply_to h known.entry.command) (sym front);
     }
 
--- a query that was begun stays so
-pub asked_later : (past more : List Turn) (caller : ClientId) (q : ℕ) (pairs : List (EventId × EventId))
-    → HasAsked past caller q pairs → HasAsked (past ++ more) caller q pairs
-asked_later past more caller q pairs known =
-    record {
-      caller_low = known.caller_low;
-      q_low = known.q_low;
-      some = known.some;
-      asked = ap (λ b. slice_get b (q - 1)) (asked_by-append caller past more) ∙ slice_get_left (asked_by caller past) (asked_by caller more) (q - 1) pairs known.asked;
-    }
+-- a query that was asked stays so
+ask_stays : (past turns : List Turn) (history more : List Entry) (caller : ClientId) (q part : ℕ)
+    (pairs : List (EventId × EventId)) → IsAsked past history caller q part pairs
+    → IsAsked (past ++ turns) (history ++ more) caller q part pairs
+ask_stays past turns history more caller q part pairs known =
+    let within = known.within in
+    record { seen = known.seen; asked = asked_later past turns caller q part pairs known.seen known.asked; within = omega (arith, length-append history more) }
 
-answers_later : (past turns : List Turn) (history more : List Entry) (caller : ClientId) (q : ℕ) (told : Told)
-    → AreAnswers past history caller q told → AreAnswers (past ++ turns) (history ++ more) caller q told
-answers_later past turns history more caller q told known =
+answers_later : (past turns : List Turn) (history more : List Entry) (caller : ClientId) (q part : ℕ) (told : Told)
+    → AreAnswers past history caller q part told → AreAnswers (past ++ turns) (history ++ more) caller q part told
+answers_later past turns history more caller q part told known =
     let within = known.within in
     record {
       pairs = known.pairs;
-      asked = asked_later past turns caller q known.pairs known.asked;
+      seen = known.seen;
+      asked = asked_later past turns caller q part known.pairs known.seen known.asked;
       within = omega (arith, length-append history more);
-      answers = known.answers ∙ ap (λ h. answers_after h known.pairs) (sym (take-append-le told.entry history more within));
+      tail = known.tail;
+      answers = known.answers ∙ ap (λ h. told_by known.tail (answers_after h known.pairs)) (sym (take-append-le told.entry history more within));
+      current = known.current;
     }
 
 request_later : (past more : List Turn) (from : nodes.Node) (seq : ℕ) (command : Command)
@@ -87,24 +89,25 @@ reply_later history more Manager seq placed known = known
 reply_later history more (AtClient client) seq placed known = stands_later history more client seq placed known
 reply_later history more (AtServer server) seq placed known = known
 
-ask_later : (past more : List Turn) (from : nodes.Node) (q : ℕ) (pairs : List (EventId × EventId))
-    → IsTrueAsk past from q pairs → IsTrueAsk (past ++ more) from q pairs
-ask_later past more Manager q pairs known = known
-ask_later past more (AtClient client) q pairs known = asked_later past more client q pairs known
-ask_later past more (AtServer server) q pairs known = known
+ask_later : (past turns : List Turn) (history more : List Entry) (from : nodes.Node) (q part : ℕ)
+    (pairs : List (EventId × EventId)) → IsTrueAsk past history from q part pairs
+    → IsTrueAsk (past ++ turns) (history ++ more) from q part pairs
+ask_later past turns history more Manager q part pairs known = known
+ask_later past turns history more (AtClient client) q part pairs known = ask_stays past turns history more client q part pairs known
+ask_later past turns history more (AtServer server) q part pairs known = known
 
-answer_later : (past turns : List Turn) (history more : List Entry) (to : nodes.Node) (q : ℕ) (told : Told)
-    → IsTrueAnswer past history to q told → IsTrueAnswer (past ++ turns) (history ++ more) to q told
-answer_later past turns history more Manager q told known = known
-answer_later past turns history more (AtClient client) q told known = answers_later past turns history more client q told known
-answer_later past turns history more (AtServer server) q told known = known
+answer_later : (past turns : List Turn) (history more : List Entry) (to : nodes.Node) (q part : ℕ) (told : Told)
+    → IsTrueAnswer past history to q part told → IsTrueAnswer (past ++ turns) (history ++ more) to q part told
+answer_later past turns history more Manager q part told known = known
+answer_later past turns history more (AtClient client) q part told known = answers_later past turns history more client q part told known
+answer_later past turns history more (AtServer server) q part told known = known
 
 message_later : (past turns : List Turn) (history more : List Entry) (from to : nodes.Node) (message : Message)
     → IsTrueMessage past history from to message → IsTrueMessage (past ++ turns) (history ++ more) from to message
 message_later past turns history more from to (Request seq command) known = request_later past turns from seq command known
 message_later past turns history more from to (Replied seq placed) known = reply_later history more to seq placed known
-message_later past turns history more from to (Ask q part pairs) known = ask_later past turns from q pairs known
-message_later past turns history more from to (Answered q part told) known = answer_later past turns history more to q told known
+message_later past turns history more from to (Ask q part pairs) known = ask_later past turns history more from q part pairs known
+message_later past turns history more from to (Answered q part told) known = answer_later past turns history more to q part told known
 message_later past turns history more from to other known = known
 
 packet_later : (past turns : List Turn) (history later : List Entry) (packet : Packet) → IsPrefix history later
@@ -134,18 +137,32 @@ lawful_later past turns log known =
           subst (λ b. IsNumbered b (entries_of caller log)) (sym (begun_by-append caller past turns)) more;
     }
 
--- queries that wait stay true, and logs lawful
-server_later : (past turns : List Turn) (server : Server) → IsTrueServer past server
-    → IsTrueServer (past ++ turns) server
-server_later past turns server known =
-    record {
-      waiting = All-weaker (IsTrueQuery past) (IsTrueQuery (past ++ turns)) (λ query asked. asked_later past turns query.client query.q query.pairs asked) server.waiting known.waiting;
-      log = lawful_later past turns server.log known.log;
-    }
+-- queries that wait stay true
+queries_later : (past turns : List Turn) (history later : List Entry) (waiting : List Query) → IsPrefix history later
+    → All (IsTrueQuery past history) waiting → All (IsTrueQuery (past ++ turns) later) waiting
+queries_later past turns history later waiting front known =
+    let Now = IsTrueQuery (past ++ turns) in
+    All-weaker (IsTrueQuery past history) (Now later) (λ query asked. subst (λ h. Now h query) (sym front.is) (ask_stays past turns history front.more query.client query.q query.part query.pairs asked)) waiting known
 
-pub servers_later : (past turns : List Turn) (servers : List Server) → All (IsTrueServer past) servers
-    → All (IsTrueServer (past ++ turns)) servers
-servers_later past turns servers known = All-weaker (IsTrueServer past) (IsTrueServer (past ++ turns)) (server_later past turns) servers known
+pub queries_grown : (past : List Turn) (history later : List Entry) (waiting : List Query) → IsPrefix history later
+    → All (IsTrueQuery past history) waiting → All (IsTrueQuery past later) waiting
+queries_grown past history later waiting front known =
+    subst (λ p. All (IsTrueQuery p later) waiting) (append-nil past) (queries_later past [] history later waiting front known)
+
+-- and logs lawful
+pub servers_later : (past turns : List Turn) (history later : List Entry) (servers : List Server)
+    → IsPrefix history later → All (IsTrueServer past history) servers
+    → All (IsTrueServer (past ++ turns) later) servers
+servers_later past turns history later servers front known =
+    All-weaker (IsTrueServer past history) (IsTrueServer (past ++ turns) later) (λ server was. record {
+      waiting = queries_later past turns history later server.waiting front was.waiting;
+      log = lawful_later past turns server.log was.log;
+    }) servers known
+
+pub servers_grown : (past : List Turn) (history later : List Entry) (servers : List Server) → IsPrefix history later
+    → All (IsTrueServer past history) servers → All (IsTrueServer past later) servers
+servers_grown past history later servers front known =
+    subst (λ p. All (IsTrueServer p later) servers) (append-nil past) (servers_later past [] history later servers front known)
 
 -- an entry stands at its place
 pub entry_stands : (before : List Entry) (entry : Entry) (after : List Entry) → 1 ≤ entry.client.0

@@ -1,14 +1,11 @@
 -- What a client is told of the pairs of its query.
-use Rattle.std.proofs.Common.{◌≡◌, ℕ, ◌≤◌, Bool, true, false, cond, ◌&&◌, eqb, List, [], ◌∷◌, length, take, refl, sym, ap, arith}
-use Rattle.std.specs.Prelude.{Some, slice_get, All}
+use Rattle.std.proofs.Common.{◌≡◌, ℕ, ◌≤◌, Bool, true, false, cond, ◌&&◌, eqb, List, length, take, refl, sym, ap, arith}
+use Rattle.std.specs.Prelude.{Some, slice_get}
 use Rattle.std.proofs.lemmas.Bool.{eqb-true, and_parts}
 use Rattle.std.proofs.lemmas.List.{length-take-le}
-use Rattle.std.proofs.lemmas.List.Elements.{All-nil, All-cons}
-use Rattle.kr_order.specs.declared.ids.ClientId.{ClientId}
 use Rattle.kr_order.specs.declared.ids.EventId.{EventId}
 use Rattle.kr_order.specs.declared.answer.Answer.{Answer}
 use Rattle.kr_order.specs.declared.answer.Answer.TheVariants.{Before, After, Same, Concurrent, Unknown, Unsure}
-use Rattle.kr_order.specs.declared.answer.Teller.{Teller}
 use Rattle.kr_order.specs.declared.answer.ToldPart.{ToldPart}
 use Rattle.kr_order.specs.declared.history.Entry.{Entry}
 use Rattle.kr_order.specs.Prefix.{IsPrefix}
@@ -16,24 +13,15 @@ use Rattle.kr_order.specs.Order.{reach}
 use Rattle.kr_order.specs.Pairs.{pairs_of, IsBefore}
 use Rattle.kr_order.specs.References.{IsLive}
 use Rattle.kr_order.specs.Agreed.{is_live, both_live, agreed_of}
-use Rattle.kr_order.specs.Answer.{answer_to, answers_after}
+use Rattle.kr_order.specs.Answer.{answer_to}
 use Rattle.kr_order.proofs.PrefixLemmas.{IsPrefix-trans, IsPrefix-take, shorter_front}
 use Rattle.kr_order.proofs.OrderLemmas.{never_back}
 use Rattle.kr_order.proofs.HistoryLemmas.{is_live-true}
 use Rattle.kr_order.proofs.PairsLemmas.{order_grows, order_acyclic, answer_to-before, answer_to-after}
-use Rattle.kr_protocol.specs.Client.{parts_of}
-use Rattle.kr_world.specs.Step.{Part, parts_to}
+use Rattle.kr_world.specs.Step.{Part}
 use Rattle.kr_world.specs.Run.{Turn}
-use Rattle.kr_world.specs.Lawful.{StaysBefore, KeepsBefore, IsCurrent, IsSameLive, IsPartTrue, seen_by, history_after}
+use Rattle.kr_world.specs.Lawful.{StaysBefore, KeepsBefore, IsSameLive, IsPartTrue, seen_by, history_after}
 use Rattle.kr_world.specs.Facts.{IsToldPart}
-
--- each part has the answer to its pair
-pub parts_told : (history : List Entry) (seen : ClientId → ℕ) (id : ClientId) (q n : ℕ) (by : Teller)
-    (pairs : List (EventId × EventId)) → n ≤ length history → seen id ≤ n
-    → All (λ part. IsToldPart history (seen part.client) part.part) (parts_to id (parts_of q n by pairs (answers_after (take n history) pairs)))
-parts_told history seen id q n by [] within current = All-nil (λ part. IsToldPart history (seen part.client) part.part)
-parts_told history seen id q n by (pair ∷ pairs) within current =
-    All-cons (λ part. IsToldPart history (seen part.client) part.part) _ _ (record { within = within; answer = refl; current = current }) (parts_told history seen id q n by pairs within current)
 
 -- what is answered of the same event
 only_same : (live same ab ba : Bool)
@@ -43,15 +31,6 @@ only_same true false true ba is = cc
 only_same true false false true is = cc
 only_same true false false false is = cc
 only_same false same ab ba is = cc
-
--- a server that has all entries is sure
-never_unsure : (live same ab ba : Bool)
-    → cond live (cond same Same (cond ab Before (cond ba After Concurrent))) Unknown ≡ Unsure → ⊥
-never_unsure true true ab ba is = cc
-never_unsure true false true ba is = cc
-never_unsure true false false true is = cc
-never_unsure true false false false is = cc
-never_unsure false same ab ba is = cc
 
 same_event : (a b : EventId) → a.0 ≡ b.0 → a ≡ b
 same_event a b is = let id : ℕ → EventId = λ n. record { 0 = n } in ap id is
@@ -63,10 +42,6 @@ answer_to-same history a b is =
     let both = and_parts (both_live agreed a.0 b.0) (eqb a.0 b.0) (only_same (both_live agreed a.0 b.0) (eqb a.0 b.0) (reach (pairs_of history) a.0 b.0) (reach (pairs_of history) b.0 a.0) is) in
     let live = and_parts (is_live agreed a.0) (is_live agreed b.0) both.0 in
     (same_event a b (eqb-true a.0 b.0 both.1), (is_live-true history a.0).0 live.0)
-
-answer_to-sure : (history : List Entry) (a b : ℕ) → answer_to history a b ≡ Unsure → ⊥
-answer_to-sure history a b is =
-    never_unsure (both_live (agreed_of history) a b) (eqb a b) (reach (pairs_of history) a b) (reach (pairs_of history) b a) is
 
 -- a path after an entry is there after each later entry, and never the other way round
 path_stays : (history longer : List Entry) (a b : EventId) → reach (pairs_of history) a.0 b.0 ≡ true
@@ -104,15 +79,6 @@ keeps_before run i history part Concurrent on within is = tt
 keeps_before run i history part Unknown on within is = tt
 keeps_before run i history part Unsure on within is = tt
 
-is_current : (history : List Entry) (seen : ℕ) (part : ToldPart) (answer : Answer) → seen ≤ part.entry
-    → answer_to (take part.entry history) part.a.0 part.b.0 ≡ answer → IsCurrent seen part answer
-is_current history seen part Before le is = tt
-is_current history seen part After le is = tt
-is_current history seen part Same le is = tt
-is_current history seen part Concurrent le is = le
-is_current history seen part Unknown le is = le
-is_current history seen part Unsure le is = answer_to-sure (take part.entry history) part.a.0 part.b.0 is
-
 is_same_live : (history : List Entry) (part : ToldPart) (answer : Answer)
     → answer_to (take part.entry history) part.a.0 part.b.0 ≡ answer → IsSameLive history part answer
 is_same_live history part Before is = tt
@@ -132,6 +98,6 @@ part_true run i turn part on told =
       within = told.within;
       answer = told.answer;
       before_holds = keeps_before run i history part.part answer on told.within (sym told.answer);
-      current = is_current history (seen_by turn part.client) part.part answer told.current (sym told.answer);
+      current = told.current;
       same_is_live = is_same_live history part.part answer (sym told.answer);
     }

@@ -1,7 +1,6 @@
 -- What a server does with a packet, with the queries that wait, and when its time has come, keeps the facts.
-use Rattle.std.proofs.Common.{◌≡◌, ℕ, ◌-◌, List, refl, sym, subst}
-use Rattle.std.specs.Prelude.{Option, None, Some, slice_get, slice_set, All}
-use Rattle.std.proofs.lemmas.List.{length-set}
+use Rattle.std.proofs.Common.{◌≡◌, ◌-◌, List, refl, sym, subst}
+use Rattle.std.specs.Prelude.{Option, None, Some, slice_set, All}
 use Rattle.std.proofs.lemmas.List.Elements.{All-weaker, All-set}
 use Rattle.kr_order.specs.declared.ids.ClientId.{ClientId}
 use Rattle.kr_order.specs.declared.ids.ServerId.{ServerId}
@@ -10,13 +9,12 @@ use Rattle.kr_order.specs.declared.message.Packet.{Packet}
 use Rattle.kr_order.specs.Prefix.{IsPrefix}
 use Rattle.kr_protocol.specs.Reaction.{Reaction}
 use Rattle.kr_protocol.specs.Server.{Server, acknowledged, server_takes, server_works, server_ticks}
-use Rattle.kr_protocol.specs.Client.{Client}
 use Rattle.kr_world.specs.World.{World, server_at, longest}
 use Rattle.kr_world.specs.Step.{server_reacts, arrives_at_server, works, ticks_at}
 use Rattle.kr_world.specs.Run.{Turn}
 use Rattle.kr_world.specs.Sound.{IsSound, IsSoundPacket}
 use Rattle.kr_world.specs.Lawful.{begun_by}
-use Rattle.kr_world.specs.Facts.{IsFresh, IsTrueQuery, IsLawfulLog, IsTrueServer, IsTruePacket, AreFacts}
+use Rattle.kr_world.specs.Facts.{IsTrueQuery, IsLawfulLog, IsTrueServer, IsTruePacket, AreFacts}
 use Rattle.kr_world.proofs.ListFacts.{set_here}
 use Rattle.kr_world.proofs.SeatLemmas.{seated, seat_within}
 use Rattle.kr_world.proofs.ReactionLemmas.{HistoryGrows, grows_or_stays}
@@ -26,63 +24,60 @@ use Rattle.kr_world.proofs.WithinLemmas.{shape_within}
 use Rattle.kr_world.proofs.HandlerLemmas.{takes_shape}
 use Rattle.kr_world.proofs.TurnLemmas.{works_shape, ticks_shape}
 use Rattle.kr_world.proofs.EntryLemmas.{numbered_front}
+use Rattle.kr_world.proofs.PacketLemmas.{queries_grown, servers_grown}
 use Rattle.kr_world.proofs.FactLemmas.{sent_facts, grown_facts}
-use Rattle.kr_world.proofs.KeepLemmas.{GoesOn, tells_nothing, quiet_goes_on}
-use Rattle.kr_world.proofs.FineLemmas.{IsMoment, IsKnown, IsFine, own_true, sent_fine}
+use Rattle.kr_world.proofs.KeepLemmas.{GoesOn, tells_nothing, facts_after, quiet_goes_on}
+use Rattle.kr_world.proofs.FineLemmas.{IsMoment, IsKnown, own_true, sent_true}
 use Rattle.kr_world.proofs.GainLemmas.{IsTrueCame, gains_lawful, waits_asked}
 
--- a server's log stays lawful, it sends true packets, of which none is old, and lets asked queries wait
-pub record IsFair (past : List Turn) (history now : List Entry) (reaction : Reaction Server) : Type 0 where
+-- a server's log stays lawful, it sends true packets, and lets asked queries wait
+pub record IsFair (past : List Turn) (now : List Entry) (reaction : Reaction Server) : Type 0 where
   pub log : IsLawfulLog past reaction.after.log
-  pub sent : All (IsFine past history now) reaction.sent
-  pub waiting : All (IsTrueQuery past) reaction.after.waiting
+  pub sent : All (IsTruePacket past now) reaction.sent
+  pub waiting : All (IsTrueQuery past now) reaction.after.waiting
 
 -- every reaction that has a server's shape is fair
 shape_fair : (past : List Turn) (world : World) (id : ServerId) (old : Server) (came : Option Packet)
     (reaction : Reaction Server) (now : List Entry) → IsMoment past world id old → IsSoundCame world.servers came
     → IsTrueCame past world.history came → HasShape came old reaction → IsPrefix world.history now
-    → IsPrefix (acknowledged reaction.after) now → IsFair past world.history now reaction
+    → IsPrefix (acknowledged reaction.after) now → IsFair past now reaction
 shape_fair past world id old came reaction now moment sound known shape grown agreed =
     let after = reaction.after in
     let log : IsLawfulLog past after.log = subst (IsLawfulLog past) (sym shape.log) (gains_lawful past world id old came shape.more moment sound known shape.gains) in
     let then : IsKnown world now after = record { grown = grown; agreed = agreed; callers = log.callers } in
     record {
       log = log;
-      sent = All-weaker (IsSent old after) (IsFine past world.history now) (sent_fine past world id old after now moment then) reaction.sent shape.sent;
-      waiting = waits_asked past world.history old came after.waiting (own_true past world id old moment) known shape.waiting;
+      sent = All-weaker (IsSent old after) (IsTruePacket past now) (sent_true past world id old after now moment then) reaction.sent shape.sent;
+      waiting = queries_grown past world.history now after.waiting grown (waits_asked past world.history old came after.waiting (own_true past world id old moment) known shape.waiting);
     }
 
 -- the facts once a server has done what is fair, before its packets are in the bag
 grown_world : (past : List Turn) (world : World) (id : ServerId) (old : Server) (reaction : Reaction Server)
     (now : List Entry) → IsMoment past world id old → IsPrefix world.history now → IsPrefix now reaction.after.log
-    → IsFair past world.history now reaction
+    → IsFair past now reaction
     → AreFacts past (record world { servers = slice_set world.servers (id.0 - 1) reaction.after; history = now })
 grown_world past world id old reaction now moment front holds fair =
     let i = id.0 - 1 in
     let servers = slice_set world.servers i reaction.after in
     let numbered = λ (caller : ClientId). numbered_front (begun_by caller past) caller now reaction.after.log holds (fair.log.numbered caller) in
-    let own : IsTrueServer past reaction.after = record { waiting = fair.waiting; log = fair.log } in
-    grown_facts past world servers now front numbered (length-set world.servers i reaction.after) (All-set (IsTrueServer past) world.servers i reaction.after own moment.facts.servers) moment.facts
+    let Now = IsTrueServer past now in
+    let own : Now reaction.after = record { waiting = fair.waiting; log = fair.log } in
+    grown_facts past world servers now front numbered (All-set Now world.servers i reaction.after own (servers_grown past world.history now world.servers front moment.facts.servers)) moment.facts
 
 fair_goes_on : (past : List Turn) (world : World) (id : ServerId) (old : Server) (reaction : Reaction Server)
     → IsMoment past world id old
     → HistoryGrows world.history (slice_set world.servers (id.0 - 1) reaction.after) old reaction.after
-    → IsFair past world.history (longest world.history (slice_set world.servers (id.0 - 1) reaction.after)) reaction
+    → IsFair past (longest world.history (slice_set world.servers (id.0 - 1) reaction.after)) reaction
     → GoesOn past world (server_reacts world id reaction)
 fair_goes_on past world id old reaction moment grows fair =
     let i = id.0 - 1 in
     let servers = slice_set world.servers i reaction.after in
     let now = longest world.history servers in
-    let Fine = IsFine past world.history now in
     let here = set_here world.servers i reaction.after (seat_within world id old moment.seat) in
-    let said : All (IsTruePacket past now) reaction.sent = All-weaker Fine (IsTruePacket past now) (λ packet fine. fine.is_true) reaction.sent fair.sent in
-    let fresh = λ (j : ℕ) (client : Client) (there : slice_get world.clients j ≡ Some client).
-    let within = (moment.facts.clients j client there).within in
-    All-weaker Fine (IsFresh client.id client.q client.seen) (λ packet fine. fine.fresh client.id client.q client.seen within) reaction.sent fair.sent in
     let grown = grown_world past world id old reaction now moment grows.front (grows.holds i reaction.after here) fair in
     record {
       taken = refl;
-      facts = sent_facts past (record world { servers = servers; history = now }) reaction.sent said fresh grown;
+      facts = facts_after past (server_reacts world id reaction) (sent_facts past (record world { servers = servers; history = now }) reaction.sent fair.sent grown);
       tells = tells_nothing world (server_reacts world id reaction) refl refl grows.front;
     }
 

@@ -16,7 +16,7 @@ use Rattle.kr_world.proofs.SeatLemmas.{IsSeated, own_of, seat_within}
 use Rattle.kr_world.proofs.SaidLemmas.{GoesOn, IsSaid, message_stays, said_message}
 use Rattle.kr_world.proofs.BoundsLemmas.{IsWithinBounds, chain_after, tail_after}
 use Rattle.kr_world.proofs.ReactionLemmas.{grows_or_stays}
-use Rattle.kr_world.proofs.BagLemmas.{calls_under, queries_under, marks_more, other_later}
+use Rattle.kr_world.proofs.BagLemmas.{calls_under, marks_more, other_later}
 
 -- the servers once one has gone on, and the history then
 abbrev servers_now : World → ServerId → Reaction Server → List Server
@@ -115,7 +115,6 @@ reacts_sound world id old reaction seat room bounds =
       last_holds = λ view last server current is there. grows.holds (last.0 - 1) server there;
       packets = packets_after world id old reaction seat bounds;
       calls = calls_under world.clients (length world.bag) (length bag) under sound.calls;
-      queries = queries_under world.clients (length world.bag) (length bag) under sound.queries;
       bag = omega arith;
       lost = marks_more world.lost world.bag reaction.sent sound.lost;
       delivered = marks_more world.delivered world.bag reaction.sent sound.delivered;

@@ -12,9 +12,10 @@ use Rattle.kr_order.specs.declared.message.Node as nodes
 use Rattle.kr_order.specs.declared.message.Node.TheVariants.{Client as OfClient, Server as OfServer}
 use Rattle.kr_order.specs.declared.message.Message.TheVariants.{Request, Append, Ack, Ask}
 use Rattle.kr_order.specs.declared.message.Packet.{Packet}
+use Rattle.kr_order.specs.declared.view.View.{View}
 use Rattle.kr_order.specs.Done.{done_of}
 use Rattle.kr_protocol.specs.Reaction.{Reaction}
-use Rattle.kr_protocol.specs.Server.{Server, most_waiting, acknowledged, is_at_tail, is_server, prev, next, may_enter, missing, next_entries, reply_packet, answer_packet}
+use Rattle.kr_protocol.specs.Server.{Server, most_waiting, acknowledged, is_at_tail, is_server, prev, next, may_enter, missing, next_entries, reply_packet, answer_packet, refer_packet}
 
 -- which entries come to the end of its log with a packet, or with none
 pub data Gains (server : Server) : Option Packet → List Entry → Type 0 where
@@ -83,6 +84,8 @@ pub data IsSent (old after : Server) : Packet → Type 0 where
       → IsSent old after (record { from = OfServer after.id; to = OfServer to; message = Append (after.fed + 1) (next_entries after) })
   -- answers to a query that waited
   sends_answer : (query : Query) → Contains old.waiting query → IsSent old after (answer_packet old query)
+  -- which view it has adopted, to who asks
+  sends_view : (view : View) (query : Query) → IsSent old after (refer_packet old view query)
 
 -- the shape of a reaction to a packet, or to none
 pub record HasShape (came : Option Packet) (old : Server) (reaction : Reaction Server) : Type 0 where

@@ -103,7 +103,7 @@ arrives_sound :
     → IsSound world
     → IsSound (arrives world to packet).after
 arrives_sound world Manager packet room said sound = sound
-arrives_sound world (ToClient client) packet room said sound = hears_sound world client packet (client_at world client) refl sound
+arrives_sound world (ToClient client) packet room said sound = hears_sound world client packet (client_at world client) refl room sound
 arrives_sound world (ToServer server) packet room said sound = takes_sound world server packet (server_at world server) refl room said sound
 
 delivers_sound :

@@ -15,7 +15,7 @@ use Rattle.kr_world.specs.World.{World}
 use Rattle.kr_world.proofs.SeatLemmas.{IsSeated, own_of}
 use Rattle.kr_world.proofs.SaidLemmas.{IsSaid}
 use Rattle.kr_world.proofs.BoundsLemmas.{IsWithinBounds}
-use Rattle.kr_world.proofs.ShapeLemmas.{Waits, waits_on, waits_more, waits_none, IsSent, sends_reply, sends_ack, sends_window, sends_answer, HasShape}
+use Rattle.kr_world.proofs.ShapeLemmas.{Waits, waits_on, waits_more, waits_none, IsSent, sends_reply, sends_ack, sends_window, sends_answer, sends_view, HasShape}
 use Rattle.kr_world.proofs.BelowLemmas.{IsSoundCame, gained_below, gained_few}
 use Rattle.kr_world.proofs.AgreedLemmas.{IsAgreed, agreed_so}
 
@@ -44,6 +44,7 @@ sent_said old after packet (sends_ack to) = (refl, omega arith, omega arith)
 sent_said old after packet (sends_window to) =
     (refl, omega arith, omega (arith, length-take most_entries (drop after.fed after.log)), entries_stand after)
 sent_said old after packet (sends_answer query at) = tt
+sent_said old after packet (sends_view view query) = tt
 
 -- the tail has replies for the entries that it gained, and for no others
 few_replies :

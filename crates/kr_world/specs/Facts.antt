@@ -1,5 +1,5 @@
 -- What holds of every world of a run, after the steps that came before it, and the laws of runs stand on.
-use Rattle.std.specs.Prelude.{◌≡◌, ℕ, ◌+◌, ◌-◌, ◌≤◌, List, [], ◌∷◌, ◌++◌, ◌==◌, if◌then◌else◌, length, take, slice_get, All, Option, None, Some}
+use Rattle.std.specs.Prelude.{◌≡◌, Bool, true, ℕ, ◌+◌, ◌-◌, ◌≤◌, List, length, take, slice_get, All, Contains, Option, None, Some}
 use Rattle.kr_order.specs.declared.ids.ClientId.{ClientId}
 use Rattle.kr_order.specs.declared.ids.EventId.{EventId}
 use Rattle.kr_order.specs.declared.answer.Query.{Query}
@@ -15,14 +15,12 @@ use Rattle.kr_order.specs.declared.message.Message.{Message}
 use Rattle.kr_order.specs.declared.message.Message.TheVariants.{Request, Replied, Ask, Answered}
 use Rattle.kr_order.specs.declared.message.Packet.{Packet}
 use Rattle.kr_order.specs.Reply.{reply_to}
-use Rattle.kr_protocol.specs.Server.{Server}
+use Rattle.kr_protocol.specs.Server.{Server, told_by}
+use Rattle.kr_protocol.specs.Cache.{CacheItem, is_lasting}
 use Rattle.kr_protocol.specs.Client.{Client}
-use Rattle.script_lang.specs.declared.script.Event.{Event}
-use Rattle.script_lang.specs.declared.script.Event.TheVariants.{Query as ToQuery}
-use Rattle.kr_world.specs.declared.refusal.Refusal.{Refusal}
-use Rattle.kr_world.specs.World.{World}
+use Rattle.kr_world.specs.World.{World, client_at}
 use Rattle.kr_world.specs.Run.{Turn}
-use Rattle.kr_world.specs.Lawful.{begun_by, entries_of, IsNumbered}
+use Rattle.kr_world.specs.Lawful.{begun_by, entries_of, IsNumbered, IsCurrent}
 
 -- the command of this number among those that the client began is this one
 pub record HasBegun (past : List Turn) (caller : ClientId) (seq : ℕ) (command : Command) : Type 0 where
@@ -30,47 +28,48 @@ pub record HasBegun (past : List Turn) (caller : ClientId) (seq : ℕ) (command 
   pub seq_low : 1 ≤ seq
   pub begun : slice_get (begun_by caller past) (seq - 1) ≡ Some command
 
--- the pairs of the query that the client begins by this event, if it does
-abbrev pub asks_by : ClientId → Event → Option Refusal → List (List (EventId × EventId))
-asks_by client (ToQuery caller server pairs) None = if caller.0 == client.0 then pairs ∷ [] else []
-asks_by client event refused = []
-
--- the pairs of the queries that the client began in these steps, in order
-abbrev pub asked_by : ClientId → List Turn → List (List (EventId × EventId))
-asked_by client [] = []
-asked_by client (turn ∷ turns) = asks_by client turn.event turn.outcome.refused ++ asked_by client turns
-
--- the query of this number among those that the client began is of these pairs
-pub record HasAsked (past : List Turn) (caller : ClientId) (q : ℕ) (pairs : List (EventId × EventId)) : Type 0 where
+-- after one of these steps the client had this part of this query open, for these pairs, and had seen so much
+pub record HasAsked (past : List Turn) (caller : ClientId) (q part : ℕ) (pairs : List (EventId × EventId)) (seen : ℕ) : Type 0 where
   pub caller_low : 1 ≤ caller.0
-  pub q_low : 1 ≤ q
-  pub some : 1 ≤ length pairs
-  pub asked : slice_get (asked_by caller past) (q - 1) ≡ Some pairs
+  pub turn : Turn
+  pub among : Contains past turn
+  pub client : Client
+  pub at : client_at turn.outcome.after caller ≡ Some client
+  pub q_is : client.q ≡ q
+  pub part_is : client.part ≡ part
+  pub asking : client.asking ≡ Some pairs
+  pub seen_is : client.seen ≡ seen
 
--- a query that waits is one that its client began
-abbrev pub IsTrueQuery : List Turn → Query → Type 0
-IsTrueQuery past query = HasAsked past query.client query.q query.pairs
+-- the client asked this, and what it had seen is history
+pub record IsAsked (past : List Turn) (history : List Entry) (caller : ClientId) (q part : ℕ) (pairs : List (EventId × EventId)) : Type 0 where
+  pub seen : ℕ
+  pub asked : HasAsked past caller q part pairs seen
+  pub within : seen ≤ length history
+
+-- a query that waits is one that its client asked
+abbrev pub IsTrueQuery : List Turn → List Entry → Query → Type 0
+IsTrueQuery past history query = IsAsked past history query.client query.q query.part query.pairs
 
 -- each client's entries in the log are the first commands that it began
 pub record IsLawfulLog (past : List Turn) (log : List Entry) : Type 0 where
   pub callers : All (λ entry. 1 ≤ entry.client.0) log
   pub numbered : (caller : ClientId) → IsNumbered (begun_by caller past) (entries_of caller log)
 
--- so is each query that waits at a server, and its log is lawful
-pub record IsTrueServer (past : List Turn) (server : Server) : Type 0 where
-  pub waiting : All (IsTrueQuery past) server.waiting
+-- each query that waits at a server was asked, and its log is lawful
+pub record IsTrueServer (past : List Turn) (history : List Entry) (server : Server) : Type 0 where
+  pub waiting : All (IsTrueQuery past history) server.waiting
   pub log : IsLawfulLog past server.log
 
--- the answers to the client's query of this number are those after the entry that they name
-pub record AreAnswers (past : List Turn) (history : List Entry) (caller : ClientId) (q : ℕ) (told : Told) : Type 0 where
+-- the answers to what the client asked, after the entry that they name; a tail's are of an entry no earlier than what
+-- the client had seen, and others are sure only of what stays so
+pub record AreAnswers (past : List Turn) (history : List Entry) (caller : ClientId) (q part : ℕ) (told : Told) : Type 0 where
   pub pairs : List (EventId × EventId)
-  pub asked : HasAsked past caller q pairs
+  pub seen : ℕ
+  pub asked : HasAsked past caller q part pairs seen
   pub within : told.entry ≤ length history
-  pub answers : told.answers ≡ answers_after (take told.entry history) pairs
-
--- answers in the packet to this query of the client are of an entry no earlier than what the client has seen
-pub record IsFresh (id : ClientId) (q seen : ℕ) (packet : Packet) : Type 0 where
-  pub fresh : (part : ℕ) (told : Told) → packet.to ≡ AtClient id → packet.message ≡ Answered q part told → seen ≤ told.entry
+  pub tail : Bool
+  pub answers : told.answers ≡ told_by tail (answers_after (take told.entry history) pairs)
+  pub current : tail ≡ true → seen ≤ told.entry
 
 -- the client's command of this number stands at this place, and has this reply
 pub record StandsAt (history : List Entry) (caller : ClientId) (seq : ℕ) (placed : Placed) : Type 0 where
@@ -94,49 +93,75 @@ IsTrueReply history Manager seq placed = Unit {0}
 IsTrueReply history (AtClient client) seq placed = StandsAt history client seq placed
 IsTrueReply history (AtServer server) seq placed = Unit {0}
 
--- a client asks of the pairs of a query that it began
-abbrev pub IsTrueAsk : List Turn → nodes.Node → ℕ → List (EventId × EventId) → Type 0
-IsTrueAsk past Manager q pairs = Unit {0}
-IsTrueAsk past (AtClient client) q pairs = HasAsked past client q pairs
-IsTrueAsk past (AtServer server) q pairs = Unit {0}
+-- a client asks what it has open
+abbrev pub IsTrueAsk : List Turn → List Entry → nodes.Node → ℕ → ℕ → List (EventId × EventId) → Type 0
+IsTrueAsk past history Manager q part pairs = Unit {0}
+IsTrueAsk past history (AtClient client) q part pairs = IsAsked past history client q part pairs
+IsTrueAsk past history (AtServer server) q part pairs = Unit {0}
 
--- a client is sent the answers to a query that it began
-abbrev pub IsTrueAnswer : List Turn → List Entry → nodes.Node → ℕ → Told → Type 0
-IsTrueAnswer past history Manager q told = Unit {0}
-IsTrueAnswer past history (AtClient client) q told = AreAnswers past history client q told
-IsTrueAnswer past history (AtServer server) q told = Unit {0}
+-- a client is sent the answers to what it asked
+abbrev pub IsTrueAnswer : List Turn → List Entry → nodes.Node → ℕ → ℕ → Told → Type 0
+IsTrueAnswer past history Manager q part told = Unit {0}
+IsTrueAnswer past history (AtClient client) q part told = AreAnswers past history client q part told
+IsTrueAnswer past history (AtServer server) q part told = Unit {0}
 
 abbrev pub IsTrueMessage : List Turn → List Entry → nodes.Node → nodes.Node → Message → Type 0
 IsTrueMessage past history from to (Request seq command) = IsTrueRequest past from seq command
 IsTrueMessage past history from to (Replied seq placed) = IsTrueReply history to seq placed
-IsTrueMessage past history from to (Ask q part pairs) = IsTrueAsk past from q pairs
-IsTrueMessage past history from to (Answered q part told) = IsTrueAnswer past history to q told
+IsTrueMessage past history from to (Ask q part pairs) = IsTrueAsk past history from q part pairs
+IsTrueMessage past history from to (Answered q part told) = IsTrueAnswer past history to q part told
 IsTrueMessage past history from to other = Unit {0}
 
 -- a packet is true, whenever it was sent
 abbrev pub IsTruePacket : List Turn → List Entry → Packet → Type 0
 IsTruePacket past history packet = IsTrueMessage past history packet.from packet.to packet.message
 
--- a told part is the answer after its entry, which is no earlier than all that its client had seen
+-- a told part is the answer after its entry; where it may change, the entry is no earlier than all that its client had
+-- seen
 pub record IsToldPart (history : List Entry) (seen : ℕ) (part : ToldPart) : Type 0 where
   pub within : part.entry ≤ length history
   pub answer : part.answer ≡ answer_to (take part.entry history) part.a.0 part.b.0
-  pub current : seen ≤ part.entry
+  pub current : IsCurrent seen part part.answer
+
+-- what a client remembers is the answer after an entry that it has seen, and stays so
+pub record IsTrueItem (history : List Entry) (seen : ℕ) (item : CacheItem) : Type 0 where
+  pub within : item.entry ≤ seen
+  pub answer : item.answer ≡ answer_to (take item.entry history) item.first item.second
+  pub lasts : is_lasting item.first item.second item.answer ≡ true
 
 -- how many calls of a client are open
 abbrev pub open_calls : Option Command → ℕ
 open_calls None = 0
 open_calls (Some command) = 1
 
--- a client with an open query has no open command, and no old answer to the query is under way
-pub record IsAsking (past : List Turn) (bag : List Packet) (client : Client) (pairs : List (EventId × EventId)) : Type 0 where
-  pub alone : client.call ≡ None
-  -- its open query is the last that it began
-  pub asked : HasAsked past client.id client.q pairs
-  pub fresh : All (IsFresh client.id client.q client.seen) bag
+-- what a client had open then is not later than what it has open now, and where it is the same part of the same query,
+-- it is of the same pairs, and the client has seen nothing new
+pub record IsNoLater (before now : Client) (pairs : List (EventId × EventId)) : Type 0 where
+  pub q : before.q ≤ now.q
+  pub part : (remaining : List (EventId × EventId)) → now.asking ≡ Some remaining → before.q ≡ now.q → before.part ≤ now.part
+  pub same :
+      (remaining : List (EventId × EventId))
+      → now.asking ≡ Some remaining
+      → before.q ≡ now.q
+      → before.part ≡ now.part
+      → (pairs ≡ remaining) × (before.seen ≡ now.seen)
 
--- the client at an index has seen only history
-pub record IsTrueClient (past : List Turn) (history : List Entry) (bag : List Packet) (i : ℕ) (client : Client) : Type 0 where
+-- so it was after this step
+pub record WasNoLater (now : Client) (turn : Turn) : Type 0 where
+  pub was :
+      (before : Client) (pairs : List (EventId × EventId))
+      → client_at turn.outcome.after now.id ≡ Some before
+      → before.asking ≡ Some pairs
+      → IsNoLater before now pairs
+
+-- the client's queries: it has none open beside a command, and what it has open it has asked last
+pub record AreTrueQueries (past : List Turn) (client : Client) : Type 0 where
+  pub alone : (pairs : List (EventId × EventId)) → client.asking ≡ Some pairs → client.call ≡ None
+  pub asked : (pairs : List (EventId × EventId)) → client.asking ≡ Some pairs → HasAsked past client.id client.q client.part pairs client.seen
+  pub last : All (WasNoLater client) past
+
+-- the client at an index has seen only history, and remembers what is true
+pub record IsTrueClient (past : List Turn) (history : List Entry) (i : ℕ) (client : Client) : Type 0 where
   pub id : client.id.0 ≡ i + 1
   -- it counts what it began
   pub seq : client.seq ≡ length (begun_by client.id past)
@@ -147,9 +172,8 @@ pub record IsTrueClient (past : List Turn) (history : List Entry) (bag : List Pa
   pub within : client.seen ≤ length history
   -- the entry of its open call is not in what it has seen
   pub old : length (entries_of client.id (take client.seen history)) + open_calls client.call ≤ client.seq
-  -- it counts the queries that it began
-  pub q : client.q ≡ length (asked_by client.id past)
-  pub query : (pairs : List (EventId × EventId)) → client.asking ≡ Some pairs → IsAsking past bag client pairs
+  pub queries : AreTrueQueries past client
+  pub cache : All (IsTrueItem history client.seen) client.cache
 
 -- seqs are in order
 pub record IsInStep (past : List Turn) (history : List Entry) : Type 0 where
@@ -163,9 +187,7 @@ pub record AreFacts (past : List Turn) (world : World) : Type 0 where
   pub packets : All (IsTruePacket past world.history) world.bag
   -- seqs are in order
   pub in_step : IsInStep past world.history
-  -- clients have seen only history
-  pub clients : (i : ℕ) (client : Client) → slice_get world.clients i ≡ Some client → IsTrueClient past world.history world.bag i client
+  -- clients have seen only history, and remember what is true
+  pub clients : (i : ℕ) (client : Client) → slice_get world.clients i ≡ Some client → IsTrueClient past world.history i client
   -- queries that wait were asked, and logs are lawful
-  pub servers : All (IsTrueServer past) world.servers
-  -- queries are asked where one server is the whole chain
-  pub alone : (caller : ClientId) → 1 ≤ length (asked_by caller past) → length world.servers ≡ 1
+  pub servers : All (IsTrueServer past world.history) world.servers

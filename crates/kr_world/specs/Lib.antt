@@ -5,8 +5,8 @@ pub mod Lines
 pub mod Run
 pub mod Rows
 pub mod ChainRows
-pub mod HeldRows
 pub mod QueryRows
+pub mod HeldRows
 pub mod Sound
 pub mod Lawful
 pub mod Facts

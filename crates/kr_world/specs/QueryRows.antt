@@ -7,15 +7,19 @@ use Rattle.script_lang.specs.declared.script.Event.{Event}
 use Rattle.script_lang.specs.declared.script.Event.TheVariants.{Query, Deliver, Work}
 use Rattle.script_lang.specs.declared.script.Script.{Script}
 use Rattle.script_lang.specs.Line.{line}
-use Rattle.kr_world.specs.Rows.{assign, must, one, two, with_two_events, two_events_made}
+use Rattle.kr_world.specs.Rows.{create, retry, assign, must, one, two, with_two_events, two_events_made}
 
--- the client asks the server
-abbrev query : List (EventId × EventId) → Event
+-- the client asks the first server
+abbrev pub query : List (EventId × EventId) → Event
 query pairs = Query (record { 0 = 1 }) (record { 0 = 1 }) pairs
 
--- the server works
-abbrev work : Event
-work = Work (record { 0 = 1 }) 1
+-- a server works
+abbrev works : ℕ → Event
+works server = Work (record { 0 = server }) 1
+
+-- the first one does
+abbrev pub work : Event
+work = works 1
 
 abbrev prefer : EventId → EventId → Pair
 prefer a b = record { first = a; second = b; kind = Prefer }
@@ -74,4 +78,36 @@ bound_events_text =
     ++ line (codes "3 c1 3 assign 1!2 = assigned kept")
     ++ line (codes "4 c1 4 assign 2?1 1?1 = assigned reversed same")
     ++ line (codes "5 c1 5 assign 2!1 = contradicts 0")
+    ++ line (codes "end")
+
+-- a stale server is unsure, so the last one is asked; the first, asked for that part again, refers to its view, which the
+-- client knows; the last one's answer is told, and the next time by the cache
+abbrev pub asked_at_the_head : Script
+asked_at_the_head =
+    record {
+      servers = 2;
+      clients = 1;
+      events =
+          create 1 ∷ Deliver 1 ∷ Deliver 2 ∷ Deliver 3 ∷ query ((one, one) ∷ []) ∷ Deliver 5 ∷ works 1 ∷ Deliver 6
+          ∷ retry 1 1 ∷ Deliver 8 ∷ Deliver 9 ∷ Deliver 7 ∷ works 2 ∷ Deliver 10 ∷ query ((one, one) ∷ []) ∷ [];
+    }
+
+abbrev pub asked_at_the_head_text : List ℕ
+asked_at_the_head_text =
+    line (codes "packet 1 c1 s1 request 1")
+    ++ line (codes "packet 2 s1 s2 append 1 1")
+    ++ line (codes "grown 1")
+    ++ line (codes "packet 3 s2 c1 reply 1 1")
+    ++ line (codes "packet 4 s2 s1 ack 1 1")
+    ++ line (codes "told c1 1 at 1 created 1")
+    ++ line (codes "packet 5 c1 s1 ask 1 1 1")
+    ++ line (codes "packet 6 s1 c1 answer 1 1 0")
+    ++ line (codes "packet 7 c1 s2 ask 1 2 1")
+    ++ line (codes "packet 8 c1 s1 ask 1 2 1")
+    ++ line (codes "packet 9 s1 c1 refer 1 2 1")
+    ++ line (codes "packet 10 s2 c1 answer 1 2 1")
+    ++ line (codes "part c1 1 1,1 same at 1 by s2")
+    ++ line (codes "part c1 2 1,1 same at 1 by cache")
+    ++ line (codes "history 1")
+    ++ line (codes "1 c1 1 create = created 1")
     ++ line (codes "end")

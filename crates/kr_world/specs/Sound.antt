@@ -13,6 +13,7 @@ use Rattle.kr_order.specs.Prefix.{IsPrefix}
 use Rattle.kr_order.specs.View.{first_view, in_chain, last_member}
 use Rattle.script_lang.specs.declared.script.Event.{Event}
 use Rattle.kr_protocol.specs.Server.{Server, most_entries, most_waiting, acknowledged, is_at_tail, prev}
+use Rattle.kr_protocol.specs.Client.{Client}
 use Rattle.kr_world.specs.World.{World, first_world}
 use Rattle.kr_world.specs.Step.{step, bag_limit}
 
@@ -105,9 +106,8 @@ pub record IsSound (world : World) : Type 0 where
       → IsSoundServer world.views world.servers world.history (length world.bag) i server
   pub last_holds : LastHolds world.views world.servers world.history
   pub packets : All (IsSoundPacket world.servers) world.bag
-  -- each command and each query had a packet of its own
+  -- each command had a packet of its own
   pub calls : All (λ client. client.seq ≤ length world.bag) world.clients
-  pub queries : All (λ client. client.q ≤ length world.bag) world.clients
   pub bag : length world.bag ≤ most_packets
   -- the marks stand beside the packets
   pub lost : length world.lost ≡ length world.bag
@@ -117,3 +117,12 @@ pub record IsSound (world : World) : Type 0 where
 pub record WorldsAreSound : Type 0 where
   pub first : (servers clients : ℕ) → 1 ≤ servers → IsSound (first_world servers clients)
   pub later : (world : World) (event : Event) → IsSound world → IsSound (step world event).after
+
+-- each client has begun so many queries at the most
+abbrev pub HaveBegun : ℕ → List Client → Type 0
+HaveBegun n clients = All (λ client. client.q ≤ n) clients
+
+-- no step begins more than one query of a client
+abbrev pub QueriesAreCounted : Type 0
+QueriesAreCounted =
+    (n : ℕ) (world : World) (event : Event) → HaveBegun n world.clients → HaveBegun (n + 1) (step world event).after.clients

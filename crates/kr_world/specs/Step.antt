@@ -119,10 +119,6 @@ abbrev pub client_calls : World → ClientId → Command → Option Client → O
 client_calls world client command None = quiet world
 client_calls world client command (Some before) = client_sends world client (begins before command)
 
-abbrev pub client_asks : World → ClientId → ServerId → List (EventId × EventId) → Option Client → Outcome
-client_asks world client server pairs None = quiet world
-client_asks world client server pairs (Some before) = client_sends world client (asks before server pairs)
-
 -- the client's open call, once more in the bag
 abbrev pub client_retries : World → ServerId → Option Client → Outcome
 client_retries world server None = quiet world
@@ -135,9 +131,15 @@ told_to client (Some reply) = record { client = client; reply = reply } ∷ []
 abbrev pub parts_to : ClientId → List ToldPart → List Part
 parts_to client parts = map (λ part. record { client = client; part = part }) parts
 
+-- what a client does: its node afterwards, its packets in the bag, and what it is told
 abbrev pub client_hears : World → ClientId → Hearing → Outcome
 client_hears world client hearing =
-    record (quiet (record world { clients = slice_set world.clients (client.0 - 1) hearing.after })) { told = told_to client hearing.told; parts = parts_to client hearing.parts }
+    record (client_sends world client (record { after = hearing.after; sent = hearing.sent })) { told = told_to client hearing.told; parts = parts_to client hearing.parts }
+
+-- the client's query: what it remembers is told at once
+abbrev pub client_asks : World → ClientId → ServerId → List (EventId × EventId) → Option Client → Outcome
+client_asks world client server pairs None = quiet world
+client_asks world client server pairs (Some before) = client_hears world client (asks before server pairs)
 
 -- a server's reaction: its node afterwards, its packets in the bag, and the history with what it has applied
 abbrev pub server_reacts : World → ServerId → Reaction Server → Outcome

@@ -1,13 +1,18 @@
 //! Laws of runs. Each function does nothing: its contract is the law, whose proof is checked with it.
 
 ghost use Rattle.kr_world.specs.Lawful.{RunsAreLawful};
-ghost use Rattle.kr_world.specs.Sound.{WorldsAreSound};
+ghost use Rattle.kr_world.specs.Sound.{WorldsAreSound, QueriesAreCounted};
 
 pub mod rows;
 
 /// Every world of a run is sound.
 pub fn worlds_are_sound()
     ensures { WorldsAreSound }
+{}
+
+/// A step begins one query of a client at the most.
+pub fn queries_are_counted()
+    ensures { QueriesAreCounted }
 {}
 
 /// Every run of a script is lawful: each command has one place, each told reply is true and new, the order stays

@@ -5,7 +5,7 @@ ghost use Rattle.kr_world.specs.FullBag.{AFullBagRefuses};
 ghost use Rattle.kr_world.specs.Run.{text_of};
 ghost use Rattle.kr_world.specs.ChainRows.{three_servers, three_servers_text, down_the_chain, down_the_chain_text, entries_come_again, entries_come_again_text, lost_on_the_way, lost_on_the_way_text};
 ghost use Rattle.kr_world.specs.HeldRows.{events_released, events_released_text};
-ghost use Rattle.kr_world.specs.QueryRows.{concurrent_events, concurrent_events_text, bound_events, bound_events_text};
+ghost use Rattle.kr_world.specs.QueryRows.{concurrent_events, concurrent_events_text, bound_events, bound_events_text, asked_at_the_head, asked_at_the_head_text};
 ghost use Rattle.kr_world.specs.Rows.{create_an_event, create_an_event_text, request_delivered_twice, request_delivered_twice_text, request_tried_again, request_tried_again_text, refused_steps, refused_steps_text, two_events, two_events_text};
 
 /// One server, one client, one create.
@@ -73,7 +73,14 @@ pub fn what_is_lost_comes_again()
     ensures { text_of lost_on_the_way ≡ lost_on_the_way_text }
 {}
 
-/// An event without a reference is held while one before it is live, and its pairs are, and no longer.
+/// A server that may lack entries is unsure, and the last one is asked; a server that is not asked for that refers to its
+/// view; and what is told for good is told by the cache the next time.
+pub fn an_unsure_answer_is_asked_again()
+    ensures { text_of asked_at_the_head ≡ asked_at_the_head_text }
+{}
+
+/// An event without a reference is held while one before it is live, and its pairs are, and no longer; that it was before
+/// another stays so.
 pub fn live_events_hold_others()
     ensures { text_of events_released ≡ events_released_text }
 {}
