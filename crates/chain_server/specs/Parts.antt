@@ -1,5 +1,5 @@
 -- What a server sends, said of its parts.
-use Rattle.std.specs.Prelude.{ℕ, ◌==◌, Bool, List, [], length, Option, None, Some, if◌then◌else◌}
+use Rattle.std.specs.Prelude.{ℕ, ◌==◌, Bool, not, ◌&&◌, List, [], ◌∷◌, length, Option, None, Some, if◌then◌else◌}
 use Rattle.std.specs.Option.{option_to_list}
 use Rattle.kr_order.specs.declared.ids.ServerId.{ServerId}
 use Rattle.kr_order.specs.declared.ids.ClientId.{ClientId}
@@ -8,8 +8,9 @@ use Rattle.kr_order.specs.declared.answer.Query.{Query}
 use Rattle.kr_order.specs.declared.history.Entry.{Entry}
 use Rattle.kr_order.specs.declared.history.DoneEntry.{DoneEntry}
 use Rattle.kr_order.specs.declared.message.Node.TheVariants.{Client, Server as FromServer}
-use Rattle.kr_order.specs.declared.message.Message.TheVariants.{Answered}
+use Rattle.kr_order.specs.declared.message.Message.TheVariants.{Answered, Refer}
 use Rattle.kr_order.specs.declared.message.Packet.{Packet}
+use Rattle.kr_order.specs.declared.view.View.{View}
 use Rattle.kr_order.specs.Answer.{answers_after}
 use Rattle.kr_protocol.specs.Reaction.{Reaction}
 use Rattle.kr_protocol.specs.Server.{Server, reply_packet, told_by, sends, window}
@@ -40,3 +41,26 @@ reply_if_last id (Some last) done = if last.place == done.place then Some (reply
 abbrev pub answered : ServerId → Bool → List Entry → Query → Packet
 answered id tail history query =
     record { from = FromServer id; to = Client query.client; message = Answered query.q query.part (record { entry = length history; answers = told_by tail (answers_after history query.pairs) }) }
+
+-- the view of a server, for the client of a query
+abbrev pub referred : ServerId → View → Query → Packet
+referred id view query =
+    record { from = FromServer id; to = Client query.client; message = Refer query.q query.part view }
+
+-- only the tail answers the pairs that are asked again
+abbrev pub is_for_tail_alone : Bool → ℕ → Bool
+is_for_tail_alone tail part = part == 2 && not tail
+
+-- what a query that waits is told
+abbrev pub worked_off : ServerId → View → Bool → List Entry → Query → Packet
+worked_off id view tail history query =
+    if is_for_tail_alone tail query.part then referred id view query else answered id tail history query
+
+-- a server tells a client which view it has adopted, if it has one
+abbrev pub view_packets : ServerId → Option View → ClientId → ℕ → ℕ → List Packet
+view_packets id None client q part = []
+view_packets id (Some view) client q part =
+    record { from = FromServer id; to = Client client; message = Refer q part view } ∷ []
+
+abbrev pub tells_view : Server → ClientId → ℕ → ℕ → Reaction Server
+tells_view server client q part = sends server (view_packets server.id server.view client q part)

@@ -38,18 +38,11 @@ fn asked_of(to: ServerId, message: Message) -> Packet {
     }
 }
 
-// A query about one pair of events.
-fn query(alloc: Global, to: ServerId) -> Result<Packet, Fail> {
+// A part of a query about one pair of events.
+fn query(alloc: Global, to: ServerId, part: u8) -> Result<Packet, Fail> {
     let mut pairs = Asked::new(alloc);
     pairs.push((EventId(1), EventId(2)))?;
-    Ok(asked_of(
-        to,
-        Message::Ask {
-            q: 1,
-            part: 1,
-            pairs,
-        },
-    ))
+    Ok(asked_of(to, Message::Ask { q: 1, part, pairs }))
 }
 
 // The first entry of a history, a create of client 7, as one server passes it on to another.
@@ -127,13 +120,41 @@ fn a_tick_sends_the_acknowledgement_and_the_window(rt: HostRuntime) -> Result<()
     Ok(())
 }
 
+// Whether these are one packet that refers to the first view.
+fn is_refer(packets: &Packets) -> bool {
+    match packets.as_slice() {
+        [packet] => match &packet.message {
+            Message::Refer {
+                q: 1,
+                part: 2,
+                view,
+            } => view.number == 1,
+            _ => false,
+        },
+        _ => false,
+    }
+}
+
 #[test]
 fn a_server_that_is_not_the_tail_is_unsure(rt: HostRuntime) -> Result<(), Fail> {
     let alloc = rt.alloc();
-    let mut middle = member(alloc, MIDDLE)?;
-    let _ = middle.take(&query(alloc, MIDDLE)?)?;
-    let worked = middle.work(&rt, 1)?;
+    let mut head = member(alloc, HEAD)?;
+    let _ = head.take(&query(alloc, HEAD, 1)?)?;
+    let worked = head.work(&rt, 1)?;
     assert!(&rt; is_answer(&worked.packets, Answer::Unsure));
-    assert_eq!(&rt; (middle.waiting(), middle.view_number()), (0, 1));
+    let referred = head.take(&query(alloc, HEAD, 2)?)?;
+    assert!(&rt; is_refer(&referred.packets));
+    assert_eq!(&rt; (head.waiting(), head.view_number()), (0, 1));
+    Ok(())
+}
+
+#[test]
+fn sixty_four_queries_wait(rt: HostRuntime) -> Result<(), Fail> {
+    let alloc = rt.alloc();
+    let mut tail = member(alloc, TAIL)?;
+    for _ in 0..65 {
+        let _ = tail.take(&query(alloc, TAIL, 2)?)?;
+    }
+    assert_eq!(&rt; tail.waiting(), 64);
     Ok(())
 }

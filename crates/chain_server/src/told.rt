@@ -3,9 +3,14 @@
 ghost use Rattle.std.specs.Prelude.{◌≡◌, map, IfOk};
 ghost use Rattle.kr_order.specs.Answer.{partial};
 ghost use Rattle.kr_protocol.specs.Server.{told_by};
-ghost use Rattle.chain_server.specs.Parts.{answered};
+ghost use Rattle.kr_order.specs.View.{is_tail};
+ghost use Rattle.query_worker.specs.Told.{told_after};
+ghost use Rattle.chain_server.specs.Parts.{is_for_tail_alone, worked_off};
 
-use kr_order::{Answer, Answers, Message, NoMemory, Node, Packet, Packets, Query, ServerId, Told};
+use kr_order::{
+    Answer, Answers, ClientId, Copied, Message, NoMemory, Node, Packet, Packets, Query, ServerId,
+    Told, View,
+};
 use order_state::Board;
 use std::alloc::Global;
 use std::thread::Threads;
@@ -44,8 +49,34 @@ fn told_by(alloc: Global, tail: bool, answers: &Answers) -> Result<Answers, NoMe
     }
 }
 
-// The packet with what is told to a query.
-fn packet_of(
+/// Whether only the tail answers this part of a query, and this server is another.
+pub fn is_for_tail(tail: bool, part: u8) -> bool
+    ensures { result ≡ is_for_tail_alone tail part }
+{
+    part == 2 && !tail
+}
+
+/// The view of a server, for the client of a query.
+pub fn refer(
+    alloc: Global,
+    id: ServerId,
+    view: &View,
+    client: ClientId,
+    q: u64,
+    part: u8,
+) -> Result<Packet, NoMemory>
+    ensures { IfOk result (λ packet. packet ≡ record { from = Node.Server id; to = Node.Client client; message = Message.Refer q part view.now }) }
+{
+    let view = view.copy(alloc)?;
+    Ok(Packet {
+        from: Node::Server(id),
+        to: Node::Client(client),
+        message: Message::Refer { q, part, view },
+    })
+}
+
+// The packet with the answers to a query.
+fn answer(
     alloc: Global,
     id: ServerId,
     tail: bool,
@@ -69,22 +100,41 @@ fn packet_of(
     })
 }
 
-/// What is told to these queries by a server, the tail or another, from what its board has applied.
-pub fn answer_packets<B: Board, R: Threads + Sync>(
+// What a query that waits is told, where these are the answers to it.
+fn packet_of(
+    alloc: Global,
+    id: ServerId,
+    view: &View,
+    query: &Query,
+    told: &Told,
+) -> Result<Packet, NoMemory>
+    ensures { (history : _) → told.now ≡ told_after history query.now →
+        IfOk result (λ packet. packet ≡ worked_off id view.now (is_tail view.now id) history query.now) }
+{
+    let tail = view.is_tail(id);
+    if is_for_tail(tail, query.part) {
+        refer(alloc, id, view, query.client, query.q, query.part)
+    } else {
+        answer(alloc, id, tail, query, told)
+    }
+}
+
+/// What these queries are told by a server of this view, from what its board has applied.
+pub fn work_packets<B: Board, R: Threads + Sync>(
     rt: &R,
     alloc: Global,
     id: ServerId,
-    tail: bool,
+    view: &View,
     board: &B,
     waiting: &[Query],
     workers: u32,
 ) -> Result<Packets, NoMemory>
-    ensures { IfOk result (λ packets. packets ≡ map (answered id tail (B.stands board.now)) waiting.now) }
+    ensures { IfOk result (λ packets. packets ≡ map (worked_off id view.now (is_tail view.now id) (B.stands board.now)) waiting.now) }
 {
     let told = board.all(rt, waiting, workers)?;
     let mut packets = Packets::new(alloc);
     for i in 0..waiting.len() {
-        packets.push(packet_of(alloc, id, tail, &waiting[i], &told[i])?)?;
+        packets.push(packet_of(alloc, id, view, &waiting[i], &told[i])?)?;
     }
     Ok(packets)
 }

@@ -31,18 +31,6 @@ Begins old command (Ok packet) new = Opens old command packet new
 Begins old command (Err Busy) new = StaysBusy old new
 Begins old command (Err NoMemory) new = new.failed ≡ true
 
--- the query was opened, and what asks the server is to be sent
-pub record OpensQuery (old : ClientStanding) (server : ServerId) (pairs : List (EventId × EventId)) (packet : Packet) (new : ClientStanding) : Type 0 where
-  pub idle : is_busy old.client ≡ false
-  pub whole : old.failed ≡ false
-  pub after : new ≡ record { client = (asks old.client server pairs).after; failed = false }
-  pub sent : (asks old.client server pairs).sent ≡ packet ∷ []
-
-abbrev pub Asks : ClientStanding → ServerId → List (EventId × EventId) → Result Packet CallStop → ClientStanding → Type 0
-Asks old server pairs (Ok packet) new = OpensQuery old server pairs packet new
-Asks old server pairs (Err Busy) new = StaysBusy old new
-Asks old server pairs (Err NoMemory) new = new.failed ≡ true
-
 -- a call is open, and is tried once more at the server
 pub record TriesAgain (client : ClientStanding) (server : ServerId) (packet : Packet) : Type 0 where
   pub busy : is_busy client.client ≡ true
@@ -59,15 +47,28 @@ Retries client server (Ok packet) = TriesAgain client server packet
 Retries client server (Err retry.NothingOpen) = IsIdle client
 Retries client server (Err retry.NoMemory) = (client.failed ≡ true) ⊎ (is_busy client.client ≡ true)
 
--- the client does as this hearing says, or has failed
+-- the client does as this hearing says
 pub record Heeds (hearing : Hearing) (heard : Heard) (new : ClientStanding) : Type 0 where
   pub after : new ≡ record { client = hearing.after; failed = false }
   pub told : heard.told ≡ hearing.told
   pub parts : heard.parts ≡ hearing.parts
+  pub sent : heard.packets ≡ hearing.sent
 
+-- or has failed
 abbrev pub Hears : Hearing → Result Heard OutOfMemory → ClientStanding → Type 0
 Hears hearing (Ok heard) new = Heeds hearing heard new
 Hears hearing (Err stop) new = new.failed ≡ true
+
+-- the query was begun: what the client remembers is told, and what asks the server for the rest is to be sent
+pub record OpensQuery (old : ClientStanding) (server : ServerId) (pairs : List (EventId × EventId)) (heard : Heard) (new : ClientStanding) : Type 0 where
+  pub idle : is_busy old.client ≡ false
+  pub whole : old.failed ≡ false
+  pub heeds : Heeds (asks old.client server pairs) heard new
+
+abbrev pub Asks : ClientStanding → ServerId → List (EventId × EventId) → Result Heard CallStop → ClientStanding → Type 0
+Asks old server pairs (Ok heard) new = OpensQuery old server pairs heard new
+Asks old server pairs (Err Busy) new = StaysBusy old new
+Asks old server pairs (Err NoMemory) new = new.failed ≡ true
 
 -- a packet was taken, which a client that has failed does not
 pub record Accepts (old : ClientStanding) (packet : Packet) (heard : Heard) (new : ClientStanding) : Type 0 where

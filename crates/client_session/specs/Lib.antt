@@ -1,2 +1,3 @@
 pub mod ClientStanding
+pub mod Lookups
 pub mod Calls

@@ -1,17 +1,24 @@
 //! The client and its calls.
 
-ghost use Rattle.std.specs.Prelude.{◌≡◌, ◌^◌, ◌<◌, ℕ, true, false, None, [], IfOk};
-ghost use Rattle.kr_protocol.specs.Client.{new_client, first_of, is_busy, says, after_reply, answers_from};
-ghost use Rattle.client_session.specs.Calls.{Begins, Asks, Retries, Takes, Hears};
+mod hears;
 
-use crate::answers::{fits, parts_of};
+ghost use Rattle.std.specs.Prelude.{◌≡◌, ◌^◌, ◌<◌, ℕ, true, false, None, [], IfOk};
+ghost use Rattle.kr_order.specs.View.{last_member};
+ghost use Rattle.kr_protocol.specs.Client.{new_client, first_of, server_or_none, remaining, is_busy, says, asked_again};
+ghost use Rattle.client_session.specs.Calls.{Begins, Asks, Retries};
+
+use crate::lookups::{Looked, look_up};
 use kr_order::{
-    Asked, ClientId, Command, Copied, Message, NoMemory, Node, Packet, Parts, Placed, ServerId,
-    Teller, Told, ToldReply, View,
+    Asked, ClientId, Command, Copied, Message, NoMemory, Node, Packet, Packets, Parts, ServerId,
+    ToldReply, View,
 };
+use order_cache::Cache;
 use std::alloc::Global;
 use std::marker::Model;
 use thiserror::Error;
+
+// So many pairs a client remembers at the most.
+const MOST_REMEMBERED: usize = 64;
 
 /// Why a call is not begun.
 #[derive(Clone, Copy, Debug, PartialEq, Eq, Error)]
@@ -57,29 +64,34 @@ impl From<NoMemory> for RetryStop {
     }
 }
 
-/// What a packet brought to the client.
+/// What a packet, or a query, brought to the client.
 #[derive(Debug, Drop)]
 pub struct Heard {
     /// The reply of the client's open command, which is closed by it.
     pub told: Option<ToldReply>,
-    /// The answers to the pairs of the client's open query, which is closed by them.
+    /// What is told of pairs of a query: by a server, or by what the client remembers.
     pub parts: Parts,
+    /// What is to be sent: at most one packet, which asks for the pairs that are left.
+    pub packets: Packets,
 }
 
 impl Heard {
-    // The packet brought nothing.
+    // Nothing is told, and nothing is to be sent.
     fn nothing(alloc: Global) -> Self
         ensures told { result.told ≡ None }
         ensures parts { result.parts ≡ [] }
+        ensures packets { result.packets ≡ [] }
     {
         Heard {
             told: None,
             parts: Parts::new(alloc),
+            packets: Packets::new(alloc),
         }
     }
 }
 
-/// A client. Commands go to the first server of the view that it knows.
+/// A client. Commands go to the first server of the view that it knows, and the pairs of which a server is unsure to
+/// the last.
 #[derive(Debug, Drop)]
 pub struct Client {
     alloc: Global,
@@ -87,9 +99,11 @@ pub struct Client {
     seq: u64,
     call: Option<Command>,
     q: u64,
+    part: u8,
     asking: Option<Asked>,
     seen: u64,
     known: View,
+    cache: Cache,
     failed: bool,
 }
 
@@ -103,12 +117,37 @@ fn first_of(chain: &[ServerId]) -> ServerId
     }
 }
 
+// The last server of the chain; 0 where there is none.
+fn last_of(view: &View) -> ServerId
+    ensures { result ≡ server_or_none (last_member view.now) }
+{
+    let members = view.chain.len();
+    match view.chain.get(members.saturating_sub(1)) {
+        Some(server) => *server,
+        None => ServerId(0),
+    }
+}
+
+// The pairs of an open query: none where none are left.
+fn remaining(left: Asked) -> Option<Asked>
+    ensures { result ≡ remaining left }
+{
+    if left.len() == 0 { None } else { Some(left) }
+}
+
 impl Model for Client {
+    ghost use Rattle.std.specs.Prelude.{◌≡◌};
+    ghost use Rattle.kr_protocol.specs.Client.{most_remembered};
     ghost use Rattle.client_session.specs.ClientStanding.{ClientStanding};
 
     ghost Value = { ClientStanding };
 
-    ghost view = { λ c. record { client = record { id = c.id; seq = c.seq; call = c.call; q = c.q; asking = c.asking; seen = c.seen; known = c.known }; failed = c.failed } };
+    ghost view = { λ c. record {
+      client = record { id = c.id; seq = c.seq; call = c.call; q = c.q; part = c.part; asking = c.asking; seen = c.seen; known = c.known; cache = c.cache.items };
+      failed = c.failed;
+    } };
+
+    ghost invariant = { λ c. c.cache.capacity ≡ most_remembered };
 }
 
 impl Client {
@@ -116,15 +155,18 @@ impl Client {
     pub fn new(alloc: Global, id: ClientId, view: View) -> Result<Client, NoMemory>
         ensures { IfOk result (λ client. client ≡ record { client = new_client view id; failed = false }) }
     {
+        let cache = Cache::new(alloc, MOST_REMEMBERED)?;
         Ok(Client {
             alloc,
             id,
             seq: 0,
             call: None,
             q: 0,
+            part: 1,
             asking: None,
             seen: 0,
             known: view,
+            cache,
             failed: false,
         })
     }
@@ -164,9 +206,24 @@ impl Client {
         ))
     }
 
-    /// Opens a query, and answers what asks the server, which is to be sent. `Busy` comes where a call is open, and
-    /// then nothing changes; after `NoMemory` the client has failed.
-    pub fn ask(&mut self, pairs: &Asked, server: ServerId) -> Result<Packet, CallStop>
+    // What asks the server for the pairs that are open, where some are.
+    fn asked_again(&self, server: ServerId) -> Result<Packets, NoMemory>
+        ensures { IfOk result (λ packets. packets ≡ asked_again self.now.client server self.now.client.asking) }
+    {
+        let mut packets = Packets::new(self.alloc);
+        let Some(pairs) = &self.asking else {
+            return Ok(packets);
+        };
+        let pairs = pairs.copy()?;
+        let (q, part) = (self.q, self.part);
+        packets.push(self.says(server, Message::Ask { q, part, pairs }))?;
+        Ok(packets)
+    }
+
+    /// Begins a query: what the client remembers of its pairs is told at once, and what asks the server for the others
+    /// is to be sent; where none are left, the query is closed. `Busy` comes where a call is open, and then nothing
+    /// changes; after `NoMemory` the client has failed.
+    pub fn ask(&mut self, pairs: &Asked, server: ServerId) -> Result<Heard, CallStop>
         requires { self.old.client.q < 2 ^ 63 }
         ensures { Asks self.old server pairs.now result self.new }
     {
@@ -177,20 +234,18 @@ impl Client {
             return Err(CallStop::Busy);
         }
         self.failed = true;
-        let kept = pairs.copy()?;
-        let sent = pairs.copy()?;
+        let looked = look_up(self.alloc, &mut self.cache, self.q + 1, pairs.as_slice())?;
+        let Looked { parts, left } = looked;
         self.q += 1;
-        self.asking = Some(kept);
+        self.part = 1;
+        self.asking = remaining(left);
+        let packets = self.asked_again(server)?;
         self.failed = false;
-        let q = self.q;
-        Ok(self.says(
-            server,
-            Message::Ask {
-                q,
-                part: 1,
-                pairs: sent,
-            },
-        ))
+        Ok(Heard {
+            told: None,
+            parts,
+            packets,
+        })
     }
 
     /// The packet that tries the open call again, at this server and with the same number; the client stays as it
@@ -208,78 +263,12 @@ impl Client {
             },
             (None, Some(pairs)) => Message::Ask {
                 q: self.q,
-                part: 1,
+                part: self.part,
                 pairs: pairs.copy()?,
             },
             (None, None) => return Err(RetryStop::NothingOpen),
         };
         Ok(self.says(server, message))
-    }
-
-    /// Takes a packet that is addressed to the client. The reply of its open command, or the answers to its open
-    /// query, are told and close it; any other packet changes nothing, also one whose answers cannot be those of
-    /// the query.
-    pub fn take(&mut self, packet: &Packet) -> Result<Heard, NoMemory>
-        ensures { Takes self.old packet.now result self.new }
-    {
-        if self.failed {
-            return Err(NoMemory);
-        }
-        match &packet.message {
-            Message::Replied { seq, placed } => self.hear_reply(*seq, placed),
-            Message::Answered { q, part, told } => self.hear_answers(packet.from, *q, *part, told),
-            _ => Ok(Heard::nothing(self.alloc)),
-        }
-    }
-
-    // A reply came in.
-    fn hear_reply(&mut self, seq: u64, placed: &Placed) -> Result<Heard, NoMemory>
-        requires { self.old.failed ≡ false }
-        ensures { Hears (after_reply self.old.client self.old.client.call seq placed.now) result self.new }
-    {
-        if self.call.is_none() || seq != self.seq {
-            return Ok(Heard::nothing(self.alloc));
-        }
-        self.failed = true;
-        let placed = placed.copy(self.alloc)?;
-        self.call = None;
-        self.seen = self.seen.max(placed.place);
-        self.failed = false;
-        Ok(Heard {
-            told: Some(ToldReply { seq, placed }),
-            parts: Parts::new(self.alloc),
-        })
-    }
-
-    // Answers came in.
-    fn hear_answers(&mut self, from: Node, q: u64, part: u8, told: &Told) -> Result<Heard, NoMemory>
-        requires { self.old.failed ≡ false }
-        ensures { Hears (answers_from self.old.client from q part told.now) result self.new }
-    {
-        let Node::Server(server) = from else {
-            return Ok(Heard::nothing(self.alloc));
-        };
-        let Some(pairs) = &self.asking else {
-            return Ok(Heard::nothing(self.alloc));
-        };
-        let answers = told.answers.as_slice();
-        if !fits(q == self.q, part, pairs.as_slice(), answers) {
-            return Ok(Heard::nothing(self.alloc));
-        }
-        let parts = parts_of(
-            self.alloc,
-            self.q,
-            told.entry,
-            Teller::Server(server),
-            pairs.as_slice(),
-            answers,
-        );
-        self.failed = true;
-        let parts = parts?;
-        self.asking = None;
-        self.seen = self.seen.max(told.entry);
-        self.failed = false;
-        Ok(Heard { told: None, parts })
     }
 
     /// The view that the client knows.

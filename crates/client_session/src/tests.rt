@@ -4,8 +4,8 @@ ghost use Rattle.std.specs.Prelude.{◌≡◌, IfOk};
 
 use super::*;
 use kr_order::{
-    Answer, Answers, Asked, ClientId, Command, EventId, Message, NoMemory, Node, Packet, Placed,
-    Reply, ServerId, Servers, Told, View,
+    Answer, Answers, Asked, ClientId, Command, EventId, Message, NoMemory, Node, Packet, Packets,
+    Placed, Reply, ServerId, Servers, Told, View,
 };
 use std::alloc::Global;
 use std::test::Fail;
@@ -59,27 +59,42 @@ fn is_request(packet: &Packet, to: ServerId, number: u64) -> bool {
     }
 }
 
-// Whether this asks this server about one pair in the query of this number.
-fn is_ask(packet: &Packet, to: ServerId, number: u64) -> bool {
-    match &packet.message {
-        Message::Ask { q, part: 1, pairs } => *q == number
-            && pairs.len() == 1
-            && packet.to == Node::Server(to),
+// Whether these are one packet that asks this server about one pair, in this part of the first query.
+fn is_ask(packets: &Packets, to: ServerId, number: u8) -> bool {
+    match packets.as_slice() {
+        [packet] => match &packet.message {
+            Message::Ask { q: 1, part, pairs } => *part == number
+                && pairs.len() == 1
+                && packet.to == Node::Server(to),
+            _ => false,
+        },
         _ => false,
     }
 }
 
-// The answer of the first server to the client's first query.
-fn answered(alloc: Global, answer: Answer) -> Result<Packet, NoMemory> {
+// An answer of a server to a part of the client's first query.
+fn answered(alloc: Global, from: ServerId, part: u8, answer: Answer) -> Result<Packet, NoMemory> {
     let mut answers = Answers::new(alloc);
     answers.push(answer)?;
     let told = Told { entry: 3, answers };
+    Ok(said(from, Message::Answered { q: 1, part, told }))
+}
+
+// A newer view, in which the second server is the whole chain.
+fn referred(alloc: Global, number: u64) -> Result<Packet, NoMemory> {
+    let mut chain = Servers::new(alloc);
+    chain.push(HEAD)?;
+    let view = View {
+        number,
+        chain,
+        joiner: None,
+    };
     Ok(said(
         HEAD,
-        Message::Answered {
+        Message::Refer {
             q: 1,
-            part: 1,
-            told,
+            part: 2,
+            view,
         },
     ))
 }
@@ -90,15 +105,6 @@ fn an_open_command_is_requested_again_with_its_number(rt: HostRuntime) -> Result
     assert!(&rt; is_request(&client.begin(Command::Create)?, HEAD, 1));
     assert!(&rt; is_request(&client.retry(TAIL)?, TAIL, 1));
     assert!(&rt; is_request(&client.retry(HEAD)?, HEAD, 1));
-    Ok(())
-}
-
-#[test]
-fn an_open_query_is_asked_again_with_its_number(rt: HostRuntime) -> Result<(), Fail> {
-    let alloc = rt.alloc();
-    let mut client = client(alloc)?;
-    assert!(&rt; is_ask(&client.ask(&pairs(alloc)?, HEAD)?, HEAD, 1));
-    assert!(&rt; is_ask(&client.retry(TAIL)?, TAIL, 1));
     Ok(())
 }
 
@@ -125,13 +131,25 @@ fn a_reply_closes_the_open_command(rt: HostRuntime) -> Result<(), Fail> {
 }
 
 #[test]
-fn answers_that_are_unsure_are_ignored(rt: HostRuntime) -> Result<(), Fail> {
+fn what_is_unsure_is_asked_of_the_last_server(rt: HostRuntime) -> Result<(), Fail> {
     let alloc = rt.alloc();
     let mut client = client(alloc)?;
-    let _ = client.ask(&pairs(alloc)?, HEAD)?;
-    let unsure = client.take(&answered(alloc, Answer::Unsure)?)?;
-    assert!(&rt; unsure.parts.len() == 0 && client.is_busy());
-    let sure = client.take(&answered(alloc, Answer::Before)?)?;
+    assert!(&rt; is_ask(&client.ask(&pairs(alloc)?, HEAD)?.packets, HEAD, 1));
+    let unsure = client.take(&answered(alloc, HEAD, 1, Answer::Unsure)?)?;
+    assert!(&rt; is_ask(&unsure.packets, TAIL, 2));
+    // the same again, a same of two events, one that is unsure again, and an older view change nothing
+    for ignored in [
+        answered(alloc, HEAD, 1, Answer::Before)?,
+        answered(alloc, TAIL, 2, Answer::Same)?,
+        answered(alloc, HEAD, 2, Answer::Unsure)?,
+        referred(alloc, 1)?,
+    ] {
+        let heard = client.take(&ignored)?;
+        assert_eq!(&rt; (heard.parts.len(), heard.packets.len()), (0, 0));
+    }
+    let newer = client.take(&referred(alloc, 2)?)?;
+    assert!(&rt; is_ask(&newer.packets, HEAD, 2));
+    let sure = client.take(&answered(alloc, TAIL, 2, Answer::Before)?)?;
     assert!(&rt; sure.parts.len() == 1 && !client.is_busy());
     Ok(())
 }

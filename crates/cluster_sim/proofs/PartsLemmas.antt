@@ -1,6 +1,7 @@
 -- What a change of the parts makes of their world.
-use Rattle.std.proofs.Common.{◌≡◌, ℕ, ◌+◌, ◌-◌, ◌<◌, ◌≤◌, min, Bool, true, false, ltb, List, [], ◌∷◌, ◌++◌, length, drop, refl, sym, ap, ◌∙◌, subst, arith, inl, inr}
-use Rattle.std.specs.Prelude.{Option, None, Some, map, slice_get, slice_set, All}
+use Rattle.std.proofs.Common.{◌≡◌, ℕ, ◌+◌, ◌-◌, ◌<◌, ◌≤◌, Bool, true, false, List, [], ◌∷◌, ◌++◌, length, drop, refl, sym, ap, ◌∙◌, subst, arith, inl, inr}
+use Rattle.std.specs.Prelude.{Option, None, Some, Result, Ok, Err, IfOk, map, slice_get, slice_set, All}
+use Rattle.std.specs.Result.{OnOk}
 use Rattle.std.specs.Option.{option_map}
 use Rattle.std.specs.declared.vec.Vec.{Vec}
 use Rattle.std.specs.declared.alloc.Global.{Global}
@@ -8,29 +9,29 @@ use Rattle.std.proofs.lemmas.Bool.{cases_lt}
 use Rattle.std.proofs.lemmas.List.{append-nil, length-append, length-take, map-set, length-map, nil_from_length, length-drop}
 use Rattle.std.proofs.lemmas.List.Elements.{All-set}
 use Rattle.std.proofs.lemmas.Option.{slice_get-map, slice_get_within, none-some}
+use Rattle.kr_order.specs.declared.ids.NoMemory.{NoMemory}
 use Rattle.kr_order.specs.declared.ids.ClientId.{ClientId}
 use Rattle.kr_order.specs.declared.ids.ServerId.{ServerId}
 use Rattle.kr_order.specs.declared.ids.EventId.{EventId}
 use Rattle.kr_order.specs.declared.history.Command.{Command}
 use Rattle.kr_order.specs.declared.history.Entry.{Entry}
 use Rattle.kr_order.specs.declared.history.DoneEntry.{DoneEntry}
-use Rattle.kr_order.specs.declared.message.Node.TheVariants.{Client as AtClient, Server as AtServer}
 use Rattle.kr_order.specs.declared.message.Packet.{Packet}
 use Rattle.kr_order.specs.declared.view.View.{View}
 use Rattle.kr_order.specs.Done.{done_from, done_of}
 use Rattle.kr_order.proofs.HistoryLemmas.{length-done_from}
 use Rattle.kr_protocol.specs.Reaction.{Reaction}
 use Rattle.kr_protocol.specs.Server.{Server, acknowledged, server_takes, server_works, server_ticks}
-use Rattle.kr_protocol.specs.Client.{Client, begins, asks, retries, client_takes}
+use Rattle.kr_protocol.specs.Client.{Client, Hearing, begins, asks, retries, client_takes}
 use Rattle.client_session.specs.declared.client.Heard.{Heard}
 use Rattle.client_session.specs.ClientStanding.{ClientStanding}
-use Rattle.client_session.specs.Calls.{Opens, OpensQuery, Accepts}
+use Rattle.client_session.specs.Calls.{Opens, OpensQuery, Accepts, Heeds}
 use Rattle.chain_server.specs.declared.effects.Effects.{Effects}
 use Rattle.chain_server.specs.ServerStanding.{ServerStanding}
-use Rattle.chain_server.specs.Calls.{Heeds}
-use Rattle.kr_world.specs.World.{World, client_at, server_at, packet_at, marked, with_packets, longest}
+use Rattle.chain_server.specs.Calls.{Heeds as ServerHeeds}
+use Rattle.kr_world.specs.World.{World, client_at, server_at, marked, with_packets, longest}
 use Rattle.kr_world.specs.declared.refusal.Refusal.TheVariants.{NoSuchClient}
-use Rattle.kr_world.specs.Step.{call_refusal, query_refusal, retry_refusal, told_to, parts_to, client_sends, client_calls, client_asks, client_retries, server_reacts, arrives_at_client, arrives_at_server, arrives, delivers, works, ticks_at, step}
+use Rattle.kr_world.specs.Step.{call_refusal, query_refusal, retry_refusal, told_to, parts_to, client_sends, client_hears, client_calls, client_asks, client_retries, server_reacts, arrives_at_client, arrives_at_server, works, ticks_at, step}
 use Rattle.kr_world.specs.Sound.{IsSound, IsSoundPacket}
 use Rattle.script_lang.specs.declared.script.Event.{Event}
 use Rattle.kr_world.proofs.SoundLemmas.{takes_within, work_within, tick_within, worlds_sound}
@@ -41,7 +42,7 @@ use Rattle.kr_world.proofs.ReactionLemmas.{HistoryGrows, grows_or_stays}
 use Rattle.cluster_sim.specs.declared.parts.Bag.{Bag}
 use Rattle.cluster_sim.specs.declared.parts.Parts.{Parts}
 use Rattle.cluster_sim.specs.declared.parts.Noted.{Noted}
-use Rattle.cluster_sim.specs.Parts.{history_of, world_of, IsCounted, IsSent, IsWhole, told_in, parts_in, noted, Makes}
+use Rattle.cluster_sim.specs.Parts.{history_of, world_of, IsCounted, IsSent, IsWhole, IsNotedOf, noted, Makes}
 
 -- the node of a client in the parts is that of their world
 pub client_there : (parts : Parts) (client : ClientId) (node : ClientStanding) → slice_get parts.clients.items (client.0 - 1) ≡ Some node → client_at (world_of parts) client ≡ Some node.client
@@ -74,15 +75,18 @@ bag_after parts bag packets sent =
     let f : List Packet → List Bool → List Bool → World = λ ps ls ds. record (world_of parts) { bag = ps; lost = ls; delivered = ds } in
     ap (λ ps. f ps bag.lost.items bag.delivered.items) packets_are ∙ ap (λ ls. f (parts.bag.packets ++ packets) ls bag.delivered.items) lost ∙ ap (f (parts.bag.packets ++ packets) (parts.bag.lost.items ++ map (λ packet. false) packets)) delivered
 
--- what a client sends: its node and the bag have changed
+-- what a client has done: its node and the bag have changed, and what it is told was noted
+client_did : (parts : Parts) (clients : Vec ClientStanding Global) (bag : Bag) (client : ClientId) (new : ClientStanding) (after : Client) (sent packets : List Packet) → IsWhole parts → clients.items ≡ slice_set parts.clients.items (client.0 - 1) new → new ≡ record { client = after; failed = false } → packets ≡ sent → IsSent parts.bag bag packets → world_of (record parts { clients = clients; bag = bag }) ≡ (client_sends (world_of parts) client (record { after = after; sent = sent })).after
+client_did parts clients bag client new after sent packets whole is done sends put =
+    let nodes = clients_after parts clients (client.0 - 1) new after is (ap (λ (s : ClientStanding). s.client) done) in
+    let bags = bag_after (record parts { clients = clients }) bag packets put in
+    let w = world_of parts in
+    bags ∙ ap (λ cs. with_packets (record w { clients = cs }) packets) nodes ∙ ap (with_packets (record w { clients = slice_set w.clients (client.0 - 1) after })) sends
+
 client_sent : (parts : Parts) (clients : Vec ClientStanding Global) (bag : Bag) (client : ClientId) (new : ClientStanding) (reaction : Reaction Client) (packet : Packet) → IsWhole parts → clients.items ≡ slice_set parts.clients.items (client.0 - 1) new → new ≡ record { client = reaction.after; failed = false } → reaction.sent ≡ packet ∷ [] → IsSent parts.bag bag (packet ∷ []) → Makes (client_sends (world_of parts) client reaction) (record parts { clients = clients; bag = bag }) nothing_noted
 client_sent parts clients bag client new reaction packet whole is after sends sent =
-    let node_after : new.client ≡ reaction.after = ap (λ (s : ClientStanding). s.client) after in
-    let nodes = clients_after parts clients (client.0 - 1) new reaction.after is node_after in
-    let bags = bag_after (record parts { clients = clients }) bag (packet ∷ []) sent in
-    let w = world_of parts in
     record {
-      after = bags ∙ ap (λ cs. with_packets (record w { clients = cs }) (packet ∷ [])) nodes ∙ ap (with_packets (record w { clients = slice_set w.clients (client.0 - 1) reaction.after })) (sym sends);
+      after = client_did parts clients bag client new reaction.after reaction.sent (packet ∷ []) whole is after (sym sends) sent;
       told = refl;
       parts = refl;
       shown = refl;
@@ -93,15 +97,30 @@ client_sent parts clients bag client new reaction packet whole is after sends se
       counted = sent.counted;
     }
 
+-- a client has heard something, or asked
+client_heeds : (parts : Parts) (clients : Vec ClientStanding Global) (bag : Bag) (client : ClientId) (new : ClientStanding) (hearing : Hearing) (heard : Heard) (noting : Noted) → IsWhole parts → clients.items ≡ slice_set parts.clients.items (client.0 - 1) new → Heeds hearing heard new → IsSent parts.bag bag heard.packets → IsNotedOf client heard noting → Makes (client_hears (world_of parts) client hearing) (record parts { clients = clients; bag = bag }) noting
+client_heeds parts clients bag client new hearing heard noting whole is heeds sent notes =
+    record {
+      after = client_did parts clients bag client new hearing.after hearing.sent heard.packets whole is heeds.after heeds.sent sent;
+      told = notes.told ∙ ap (told_to client) heeds.told;
+      parts = notes.parts ∙ ap (parts_to client) heeds.parts;
+      shown = notes.shown;
+      refused = notes.refused;
+      servers = whole.servers;
+      clients = clients_whole parts.clients.items clients.items (client.0 - 1) new is (ap (λ (s : ClientStanding). s.failed) heeds.after) whole.clients;
+      journal = whole.journal;
+      counted = sent.counted;
+    }
+
 -- a client's command
 pub client_called : (parts : Parts) (clients : Vec ClientStanding Global) (bag : Bag) (client : ClientId) (command : Command) (old new : ClientStanding) (packet : Packet) → IsWhole parts → slice_get parts.clients.items (client.0 - 1) ≡ Some old → clients.items ≡ slice_set parts.clients.items (client.0 - 1) new → Opens old command packet new → IsSent parts.bag bag (packet ∷ []) → Makes (client_calls (world_of parts) client command (client_at (world_of parts) client)) (record parts { clients = clients; bag = bag }) nothing_noted
 client_called parts clients bag client command old new packet whole there is opens sent =
     subst (λ found. Makes (client_calls (world_of parts) client command found) (record parts { clients = clients; bag = bag }) nothing_noted) (sym (client_there parts client old there)) (client_sent parts clients bag client new (begins old.client command) packet whole is opens.after opens.sent sent)
 
 -- a client's query
-pub client_asked : (parts : Parts) (clients : Vec ClientStanding Global) (bag : Bag) (client : ClientId) (server : ServerId) (pairs : List (EventId × EventId)) (old new : ClientStanding) (packet : Packet) → IsWhole parts → slice_get parts.clients.items (client.0 - 1) ≡ Some old → clients.items ≡ slice_set parts.clients.items (client.0 - 1) new → OpensQuery old server pairs packet new → IsSent parts.bag bag (packet ∷ []) → Makes (client_asks (world_of parts) client server pairs (client_at (world_of parts) client)) (record parts { clients = clients; bag = bag }) nothing_noted
-client_asked parts clients bag client server pairs old new packet whole there is opens sent =
-    subst (λ found. Makes (client_asks (world_of parts) client server pairs found) (record parts { clients = clients; bag = bag }) nothing_noted) (sym (client_there parts client old there)) (client_sent parts clients bag client new (asks old.client server pairs) packet whole is opens.after opens.sent sent)
+pub client_asked : (parts : Parts) (clients : Vec ClientStanding Global) (bag : Bag) (client : ClientId) (server : ServerId) (pairs : List (EventId × EventId)) (old new : ClientStanding) (heard : Heard) (noting : Noted) → IsWhole parts → slice_get parts.clients.items (client.0 - 1) ≡ Some old → clients.items ≡ slice_set parts.clients.items (client.0 - 1) new → OpensQuery old server pairs heard new → IsSent parts.bag bag heard.packets → IsNotedOf client heard noting → Makes (client_asks (world_of parts) client server pairs (client_at (world_of parts) client)) (record parts { clients = clients; bag = bag }) noting
+client_asked parts clients bag client server pairs old new heard noting whole there is opens sent notes =
+    subst (λ found. Makes (client_asks (world_of parts) client server pairs found) (record parts { clients = clients; bag = bag }) noting) (sym (client_there parts client old there)) (client_heeds parts clients bag client new (asks old.client server pairs) heard noting whole is opens.heeds sent notes)
 
 -- a client's call once more
 pub client_retried : (parts : Parts) (bag : Bag) (client : ClientId) (server : ServerId) (node : ClientStanding) (packet : Packet) → IsWhole parts → slice_get parts.clients.items (client.0 - 1) ≡ Some node → retries node.client server ≡ packet ∷ [] → IsSent parts.bag bag (packet ∷ []) → Makes (client_retries (world_of parts) server (client_at (world_of parts) client)) (record parts { bag = bag }) nothing_noted
@@ -118,22 +137,15 @@ client_retried parts bag client server node packet whole there sends sent =
       counted = sent.counted;
     })
 
--- a packet that a client heard: its node has changed
-pub client_heard : (parts : Parts) (clients : Vec ClientStanding Global) (client : ClientId) (old new : ClientStanding) (packet : Packet) (heard : Heard) (noting : Noted) → IsWhole parts → slice_get parts.clients.items (client.0 - 1) ≡ Some old → clients.items ≡ slice_set parts.clients.items (client.0 - 1) new → Accepts old packet heard new → noting.refused ≡ None → noting.shown ≡ None → told_in noting.told ≡ told_to client heard.told → parts_in noting.parts ≡ parts_to client heard.parts → Makes (arrives_at_client (world_of parts) client packet (client_at (world_of parts) client)) (record parts { clients = clients }) noting
-client_heard parts clients client old new packet heard noting whole there is accepts none unshown told parts_told =
-    let node_after : new.client ≡ (client_takes old.client packet).after = ap (λ (s : ClientStanding). s.client) accepts.heeds.after in
-    let nodes = clients_after parts clients (client.0 - 1) new (client_takes old.client packet).after is node_after in
-    subst (λ found. Makes (arrives_at_client (world_of parts) client packet found) (record parts { clients = clients }) noting) (sym (client_there parts client old there)) (record {
-      after = ap (λ cs. record (world_of parts) { clients = cs }) nodes;
-      told = told ∙ ap (told_to client) accepts.heeds.told;
-      parts = parts_told ∙ ap (parts_to client) accepts.heeds.parts;
-      shown = unshown;
-      refused = none;
-      servers = whole.servers;
-      clients = clients_whole parts.clients.items clients.items (client.0 - 1) new is (ap (λ (s : ClientStanding). s.failed) accepts.heeds.after) whole.clients;
-      journal = whole.journal;
-      counted = whole.counted;
-    })
+-- a packet that a client heard
+pub client_heard : (parts : Parts) (clients : Vec ClientStanding Global) (bag : Bag) (client : ClientId) (old new : ClientStanding) (packet : Packet) (heard : Heard) (noting : Noted) → IsWhole parts → slice_get parts.clients.items (client.0 - 1) ≡ Some old → clients.items ≡ slice_set parts.clients.items (client.0 - 1) new → Accepts old packet heard new → IsSent parts.bag bag heard.packets → IsNotedOf client heard noting → Makes (arrives_at_client (world_of parts) client packet (client_at (world_of parts) client)) (record parts { clients = clients; bag = bag }) noting
+client_heard parts clients bag client old new packet heard noting whole there is accepts sent notes =
+    subst (λ found. Makes (arrives_at_client (world_of parts) client packet found) (record parts { clients = clients; bag = bag }) noting) (sym (client_there parts client old there)) (client_heeds parts clients bag client new (client_takes old.client packet) heard noting whole is accepts.heeds sent notes)
+
+-- what follows of the parts where something was noted
+pub noted_so : (result : Result Noted NoMemory) (P : Type 0) (Q R : Noted → Type 0) → OnOk result P → IfOk result Q → ((noting : Noted) → P → Q noting → R noting) → IfOk result R
+noted_so (Ok noting) P Q R sent notes made = made noting sent notes
+noted_so (Err stop) P Q R sent notes made = tt
 
 -- a journal is of the history whose done entries it has
 history_of-done_from : (before entries : List Entry) → history_of (done_from before entries) ≡ entries
@@ -184,7 +196,7 @@ pub record IsSettled (parts made : Parts) (server : ServerId) (old new : ServerS
   pub journal : made.journal ≡ noted parts.journal old.server.done effects.committed
 
 -- a server's reaction: its node, the bag and the journal have changed
-pub server_reacted : (parts made : Parts) (server : ServerId) (old new : ServerStanding) (reaction : Reaction Server) (effects : Effects) → IsWhole parts → IsSettled parts made server old new effects → IsWithinBounds (world_of parts) old.server reaction → Heeds old reaction effects new → Makes (server_reacts (world_of parts) server reaction) made nothing_noted
+pub server_reacted : (parts made : Parts) (server : ServerId) (old new : ServerStanding) (reaction : Reaction Server) (effects : Effects) → IsWhole parts → IsSettled parts made server old new effects → IsWithinBounds (world_of parts) old.server reaction → ServerHeeds old reaction effects new → Makes (server_reacts (world_of parts) server reaction) made nothing_noted
 server_reacted parts made server old new reaction effects whole settled bounds heeds =
     let i = server.0 - 1 in
     let w = world_of parts in
@@ -217,21 +229,21 @@ server_reacted parts made server old new reaction effects whole settled bounds h
     }
 
 -- a server takes a packet
-pub server_took : (parts made : Parts) (server : ServerId) (old new : ServerStanding) (packet : Packet) (effects : Effects) → IsWhole parts → IsSettled parts made server old new effects → IsSoundPacket (world_of parts).servers packet → Heeds old (server_takes old.server packet) effects new → Makes (arrives_at_server (world_of parts) server packet (server_at (world_of parts) server)) made nothing_noted
+pub server_took : (parts made : Parts) (server : ServerId) (old new : ServerStanding) (packet : Packet) (effects : Effects) → IsWhole parts → IsSettled parts made server old new effects → IsSoundPacket (world_of parts).servers packet → ServerHeeds old (server_takes old.server packet) effects new → Makes (arrives_at_server (world_of parts) server packet (server_at (world_of parts) server)) made nothing_noted
 server_took parts made server old new packet effects whole settled said heeds =
     let at = server_there parts server old settled.there in
     let bounds = takes_within (world_of parts) server packet old.server (record { at = at; sound = whole.sound }) said in
     subst (λ found. Makes (arrives_at_server (world_of parts) server packet found) made nothing_noted) (sym at) (server_reacted parts made server old new (server_takes old.server packet) effects whole settled bounds heeds)
 
 -- a server works
-pub server_worked : (parts made : Parts) (server : ServerId) (old new : ServerStanding) (effects : Effects) → IsWhole parts → IsSettled parts made server old new effects → Heeds old (server_works old.server) effects new → Makes (works (world_of parts) server (server_at (world_of parts) server)) made nothing_noted
+pub server_worked : (parts made : Parts) (server : ServerId) (old new : ServerStanding) (effects : Effects) → IsWhole parts → IsSettled parts made server old new effects → ServerHeeds old (server_works old.server) effects new → Makes (works (world_of parts) server (server_at (world_of parts) server)) made nothing_noted
 server_worked parts made server old new effects whole settled heeds =
     let at = server_there parts server old settled.there in
     let bounds = work_within (world_of parts) server old.server (record { at = at; sound = whole.sound }) in
     subst (λ found. Makes (works (world_of parts) server found) made nothing_noted) (sym at) (server_reacted parts made server old new (server_works old.server) effects whole settled bounds heeds)
 
 -- a server ticks
-pub server_ticked : (parts made : Parts) (server : ServerId) (old new : ServerStanding) (effects : Effects) → IsWhole parts → IsSettled parts made server old new effects → Heeds old (server_ticks old.server) effects new → Makes (ticks_at (world_of parts) server (server_at (world_of parts) server)) made nothing_noted
+pub server_ticked : (parts made : Parts) (server : ServerId) (old new : ServerStanding) (effects : Effects) → IsWhole parts → IsSettled parts made server old new effects → ServerHeeds old (server_ticks old.server) effects new → Makes (ticks_at (world_of parts) server (server_at (world_of parts) server)) made nothing_noted
 server_ticked parts made server old new effects whole settled heeds =
     let at = server_there parts server old settled.there in
     let bounds = tick_within (world_of parts) server old.server (record { at = at; sound = whole.sound }) in

@@ -6,8 +6,9 @@ use Rattle.kr_order.specs.declared.history.Entry.{Entry}
 use Rattle.kr_order.specs.declared.history.DoneEntry.{DoneEntry}
 use Rattle.kr_order.specs.declared.message.Packet.{Packet}
 use Rattle.kr_order.specs.Done.{done_of}
+use Rattle.client_session.specs.declared.client.Heard.{Heard}
 use Rattle.kr_world.specs.World.{World, bytes_of}
-use Rattle.kr_world.specs.Step.{Told, Part, Outcome, parts_to}
+use Rattle.kr_world.specs.Step.{Told, Part, Outcome, told_to, parts_to}
 use Rattle.kr_world.specs.Lines.{grown_line, told_lines, part_lines, shown_line, refused_line, packet_lines}
 use Rattle.kr_world.specs.Sound.{IsSound}
 use Rattle.cluster_sim.specs.declared.parts.Bag.{Bag}
@@ -71,6 +72,13 @@ part_told client part = record { client = client; part = part }
 abbrev pub parts_in : Option PartsTelling → List Part
 parts_in None = []
 parts_in (Some telling) = parts_to telling.client telling.parts
+
+-- what was noted is what a client has heard
+pub record IsNotedOf (client : ClientId) (heard : Heard) (noting : Noted) : Type 0 where
+  pub told : told_in noting.told ≡ told_to client heard.told
+  pub parts : parts_in noting.parts ≡ parts_to client heard.parts
+  pub shown : noting.shown ≡ None
+  pub refused : noting.refused ≡ None
 
 -- the parts and what was noted are this outcome of a step, and the parts are whole
 pub record Makes (outcome : Outcome) (made : Parts) (noted : Noted) : Type 0 where

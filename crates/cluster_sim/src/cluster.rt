@@ -1,9 +1,10 @@
 //! The cluster and its calls.
 
-ghost use Rattle.std.specs.Prelude.{◌≡◌, false, OnOk, IfOk};
+ghost use Rattle.std.specs.Prelude.{◌≡◌, ◌^◌, ◌-◌, false, OnOk, IfOk};
 ghost use Rattle.kr_order.specs.Done.{done_of};
 ghost use Rattle.script_lang.specs.Script.{IsSize};
 ghost use Rattle.kr_world.specs.World.{first_world};
+ghost use Rattle.kr_world.specs.Sound.{HaveBegun};
 ghost use Rattle.kr_world.specs.Lines.{end_lines};
 ghost use Rattle.cluster_sim.specs.Steps.{Steps, StepsOnto};
 
@@ -64,13 +65,15 @@ impl Cluster {
     }
 
     /// Does one step, and puts its lines behind those that are there. A step that is refused changes nothing, and
-    /// puts a line that says why. After `NoMemory` the cluster has failed, and of the lines nothing is said.
+    /// puts a line that says why. After `NoMemory` the cluster has failed, and of the lines nothing is said. Each client
+    /// has to have begun fewer than 2^63 queries before.
     pub fn step_onto<R: Threads + Sync>(
         &mut self,
         rt: &R,
         event: &Event,
         lines: &mut Vec<u8>,
     ) -> Result<(), NoMemory>
+        requires { HaveBegun (2 ^ 63 - 1) self.old.world.clients }
         ensures { StepsOnto self.old event.now lines.old.items result self.new lines.new.items }
     {
         if self.failed {
@@ -86,8 +89,9 @@ impl Cluster {
     }
 
     /// Does one step, and answers its lines. A step that is refused changes nothing and answers a line that
-    /// says why. After `NoMemory` the cluster has failed.
+    /// says why. After `NoMemory` the cluster has failed. Each client has to have begun fewer than 2^63 queries before.
     pub fn step<R: Threads + Sync>(&mut self, rt: &R, event: &Event) -> Result<Lines, NoMemory>
+        requires { HaveBegun (2 ^ 63 - 1) self.old.world.clients }
         ensures { Steps self.old event.now result self.new }
     {
         let mut lines = Vec::new(self.alloc);

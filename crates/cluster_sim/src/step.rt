@@ -4,7 +4,8 @@ mod calls;
 mod packets;
 mod turns;
 
-ghost use Rattle.std.specs.Prelude.{◌≡◌, IfOk, None};
+ghost use Rattle.std.specs.Prelude.{◌≡◌, ◌^◌, ◌-◌, IfOk, None};
+ghost use Rattle.kr_world.specs.Sound.{HaveBegun};
 ghost use Rattle.kr_world.specs.Step.{refusal_of, act, step as world_step};
 ghost use Rattle.cluster_sim.specs.Parts.{world_of, IsWhole, Makes};
 
@@ -24,6 +25,7 @@ fn act<R: Threads + Sync>(
 ) -> Result<Noted, NoMemory>
     requires whole { IsWhole parts.old }
     requires free { refusal_of (world_of parts.old) event.now ≡ None }
+    requires few { HaveBegun (2 ^ 63 - 1) (world_of parts.old).clients }
     ensures { IfOk result (Makes (act (world_of parts.old) event.now) parts.new) }
 {
     match event {
@@ -49,7 +51,8 @@ pub fn step<R: Threads + Sync>(
     parts: &mut Parts,
     event: &Event,
 ) -> Result<Noted, NoMemory>
-    requires { IsWhole parts.old }
+    requires whole { IsWhole parts.old }
+    requires few { HaveBegun (2 ^ 63 - 1) (world_of parts.old).clients }
     ensures { IfOk result (Makes (world_step (world_of parts.old) event.now) parts.new) }
 {
     match refusal(parts, event) {

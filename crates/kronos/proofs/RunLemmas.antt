@@ -14,6 +14,8 @@ use Rattle.script_lang.specs.declared.script.Script.{Script}
 use Rattle.script_lang.specs.Line.{line}
 use Rattle.kr_world.specs.World.{World, first_world}
 use Rattle.kr_world.specs.Step.{step}
+use Rattle.kr_world.specs.Sound.{HaveBegun}
+use Rattle.kr_world.proofs.CountLemmas.{queries_counted}
 use Rattle.kr_world.specs.Lines.{step_lines, done_lines, end_lines}
 use Rattle.kr_world.specs.Run.{Turn, run_from, text_from, text_of}
 use Rattle.cluster_sim.specs.ClusterStanding.{ClusterStanding}
@@ -93,6 +95,7 @@ pub record IsPartWay (first : ClusterStanding) (events : List Event) (i : ℕ) (
   pub taken : Appends held held' written
   pub rest : text_on first.world events ≡ written ++ (gathered ++ text_on cluster.world (drop i events))
   pub calm : faults' ≡ faults
+  pub begun : HaveBegun i cluster.world.clients
 
 -- the text of the rest begins with the lines of the next step
 text_on-step : (events : List Event) (i : ℕ) (world : World) (d : Event) → i < length events → text_on world (drop i events) ≡ step_lines world (step world (get_or events i d)) ++ text_on (step world (get_or events i d)).after (drop (i + 1) events)
@@ -122,6 +125,7 @@ one_further first events i old new gathered gathered' d held mid held' faults mi
       taken = Appends-trans held mid held' so_far.written turn.written so_far.taken turn.taken;
       rest = all ∙ moved;
       calm = calm ∙ so_far.calm;
+      begun = subst (λ w. HaveBegun (i + 1) w.clients) (sym now) (queries_counted i old.world (get_or events i d) so_far.begun);
     }
 
 -- a write failed at the next step

@@ -1,9 +1,10 @@
 //! A script's run, written step by step.
 
-ghost use Rattle.std.specs.Prelude.{◌≡◌, ◌++◌, []};
+ghost use Rattle.std.specs.Prelude.{◌≡◌, ◌<◌, ◌^◌, ◌-◌, ◌++◌, [], length};
 ghost use Rattle.script_lang.specs.Script.{IsScript};
 ghost use Rattle.kr_world.specs.Lines.{end_lines};
 ghost use Rattle.kr_world.specs.Run.{text_of};
+ghost use Rattle.kr_world.specs.Sound.{HaveBegun};
 ghost use Rattle.kronos.specs.Runs.{IsWritten, RunsEvents, Turns};
 
 use cluster_sim::Cluster;
@@ -65,7 +66,8 @@ pub fn run<R: Threads + Sync, K: Sink>(
     script: &Script,
     sink: &mut K,
 ) -> Result<(), Stop>
-    requires { IsScript script.now }
+    requires fit { IsScript script.now }
+    requires few { length script.now.events < 2 ^ 63 }
     ensures { IsWritten (text_of script.now) result (K.held sink.old) (K.held sink.new) (K.faults sink.old) (K.faults sink.new) }
 {
     let mut cluster = match Cluster::new(alloc, script.servers, script.clients) {
@@ -93,7 +95,9 @@ fn run_events<R: Threads + Sync, K: Sink>(
     gathered: &mut Vec<u8>,
     sink: &mut K,
 ) -> Result<(), Stop>
-    requires { gathered.old.items ≡ [] }
+    requires none { gathered.old.items ≡ [] }
+    requires first { HaveBegun 0 cluster.old.world.clients }
+    requires few { length events.now < 2 ^ 63 }
     ensures { RunsEvents cluster.old events.now result cluster.new gathered.new.items (K.held sink.old) (K.held sink.new) (K.faults sink.old) (K.faults sink.new) }
 {
     for event in events {
@@ -113,6 +117,7 @@ fn turn<R: Threads + Sync, K: Sink>(
     gathered: &mut Vec<u8>,
     sink: &mut K,
 ) -> Result<(), Stop>
+    requires { HaveBegun (2 ^ 63 - 1) cluster.old.world.clients }
     ensures { Turns cluster.old event.now gathered.old.items result cluster.new gathered.new.items (K.held sink.old) (K.held sink.new) (K.faults sink.old) (K.faults sink.new) }
 {
     cluster.step_onto(rt, event, gathered)?;

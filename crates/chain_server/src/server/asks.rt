@@ -1,12 +1,13 @@
 //! Queries of clients, and the work on those that wait.
 
 ghost use Rattle.std.specs.Prelude.{◌≡◌, false};
-ghost use Rattle.kr_protocol.specs.Server.{after_ask, server_works};
+ghost use Rattle.kr_protocol.specs.Server.{waits, after_ask, server_works};
 ghost use Rattle.chain_server.specs.Calls.{Does, query_of};
+ghost use Rattle.chain_server.specs.Parts.{tells_view};
 
 use super::Server;
 use crate::Effects;
-use crate::told::answer_packets;
+use crate::told::{is_for_tail, refer, work_packets};
 use kr_order::{Asked, ClientId, Listed, NoMemory, Query};
 use order_state::Board;
 use std::thread::Threads;
@@ -15,8 +16,8 @@ use std::thread::Threads;
 const MOST_WAITING: usize = 64;
 
 impl<B: Board> Server<B> {
-    // A client asks about pairs of events.
-    pub(super) fn take_ask(
+    // The query joins the end of those that wait, where there is room.
+    fn wait(
         &mut self,
         client: ClientId,
         q: u64,
@@ -24,7 +25,7 @@ impl<B: Board> Server<B> {
         pairs: &Asked,
     ) -> Result<Effects, NoMemory>
         requires { self.old.failed ≡ false }
-        ensures { Does self.old (after_ask self.old.server (query_of client q part pairs.now)) result self.new }
+        ensures { Does self.old (waits self.old.server (query_of client q part pairs.now)) result self.new }
     {
         if self.waiting.len() >= MOST_WAITING {
             return Ok(Effects::none(self.alloc));
@@ -41,8 +42,40 @@ impl<B: Board> Server<B> {
         Ok(Effects::none(self.alloc))
     }
 
-    /// Answers every waiting query, the oldest first, from the acknowledged prefix; then none waits. The packets do
-    /// not depend on the number of workers.
+    // The client is told of the view.
+    fn refer_to_view(&mut self, client: ClientId, q: u64, part: u8) -> Result<Effects, NoMemory>
+        requires { self.old.failed ≡ false }
+        ensures { Does self.old (tells_view self.old.server client q part) result self.new }
+    {
+        self.failed = true;
+        let packet = refer(self.alloc, self.id, &self.view, client, q, part)?;
+        let effects = Effects::of_packet(self.alloc, packet)?;
+        self.failed = false;
+        Ok(effects)
+    }
+
+    // A client asks about pairs of events.
+    pub(super) fn take_ask(
+        &mut self,
+        client: ClientId,
+        q: u64,
+        part: u8,
+        pairs: &Asked,
+    ) -> Result<Effects, NoMemory>
+        requires { self.old.failed ≡ false }
+        ensures { Does self.old (after_ask self.old.server (query_of client q part pairs.now)) result self.new }
+    {
+        let member = self.view.in_chain(self.id);
+        if !member || is_for_tail(self.view.is_tail(self.id), part) {
+            self.refer_to_view(client, q, part)
+        } else {
+            self.wait(client, q, part, pairs)
+        }
+    }
+
+    /// Tells every waiting query something, the oldest first: the answers from the acknowledged prefix, or, where only
+    /// the tail answers it and the server is another, which view it has adopted. Then none waits. The packets do not
+    /// depend on the number of workers.
     pub fn work<R: Threads + Sync>(&mut self, rt: &R, workers: u32) -> Result<Effects, NoMemory>
         ensures { Does self.old (server_works self.old.server) result self.new }
     {
@@ -50,11 +83,11 @@ impl<B: Board> Server<B> {
             return Err(NoMemory);
         }
         self.failed = true;
-        let packets = answer_packets(
+        let packets = work_packets(
             rt,
             self.alloc,
             self.id,
-            self.view.is_tail(self.id),
+            &self.view,
             &self.board,
             self.waiting.as_slice(),
             workers,

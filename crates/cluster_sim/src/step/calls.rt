@@ -1,14 +1,15 @@
 //! What clients do: commands, queries, and both tried again.
 
-ghost use Rattle.std.specs.Prelude.{◌≡◌, IfOk, None};
+ghost use Rattle.std.specs.Prelude.{◌≡◌, ◌^◌, ◌-◌, IfOk, OnOk, None};
 ghost use Rattle.kr_world.specs.World.{client_at, server_at};
-ghost use Rattle.kr_world.specs.Step.{call_refusal, query_refusal, retry_refusal, client_calls, client_asks, client_retries};
-ghost use Rattle.cluster_sim.specs.Parts.{world_of, IsWhole, Makes};
+ghost use Rattle.kr_world.specs.Step.{call_refusal, query_refusal, retry_refusal, told_to, client_calls, client_asks, client_retries};
+ghost use Rattle.cluster_sim.specs.Parts.{world_of, IsWhole, IsCounted, IsSent, IsNotedOf, told_in, Makes};
+ghost use Rattle.kr_world.specs.Sound.{HaveBegun};
 
-use crate::parts::{Noted, Parts};
+use crate::parts::{Bag, Noted, Parts, PartsTelling, Telling};
 use crate::refusals::index_of;
-use client_session::{CallStop, RetryStop};
-use kr_order::{Asked, ClientId, Command, Copied, NoMemory, ServerId};
+use client_session::{CallStop, Heard, RetryStop};
+use kr_order::{Asked, ClientId, Command, Copied, NoMemory, ServerId, ToldReply};
 use std::alloc::Global;
 
 /// The client begins the command, and its request is put into the bag.
@@ -35,7 +36,37 @@ pub fn call(
     }
 }
 
-/// The client asks the server, and its question is put into the bag.
+// What the client is told, with its number.
+fn telling(client: ClientId, told: Option<ToldReply>) -> Option<Telling>
+    ensures { told_in result ≡ told_to client told }
+{
+    match told {
+        None => None,
+        Some(reply) => Some(Telling { client, reply }),
+    }
+}
+
+/// What the client has heard: its packets go into the bag, and what it is told is noted.
+pub fn hear(bag: &mut Bag, client: ClientId, heard: Heard) -> Result<Noted, NoMemory>
+    requires { IsCounted bag.old }
+    ensures sent { OnOk result (IsSent bag.old bag.new heard.packets) }
+    ensures noted { IfOk result (λ noted. IsNotedOf client heard noted) }
+{
+    let Heard {
+        told,
+        parts,
+        packets,
+    } = heard;
+    bag.send_all(packets)?;
+    Ok(Noted {
+        told: telling(client, told),
+        parts: Some(PartsTelling { client, parts }),
+        shown: None,
+        refused: None,
+    })
+}
+
+/// The client begins a query: what it remembers is told, and its question to the server is put into the bag.
 pub fn ask(
     parts: &mut Parts,
     client: ClientId,
@@ -44,15 +75,13 @@ pub fn ask(
 ) -> Result<Noted, NoMemory>
     requires whole { IsWhole parts.old }
     requires free { query_refusal (world_of parts.old) (client_at (world_of parts.old) client) (server_at (world_of parts.old) server) ≡ None }
+    requires few { HaveBegun (2 ^ 63 - 1) (world_of parts.old).clients }
     ensures { IfOk result (Makes (client_asks (world_of parts.old) client server pairs.now (client_at (world_of parts.old) client)) parts.new) }
 {
     let i = index_of(u64::from(client.0));
     let node = &mut parts.clients[i];
     match node.ask(pairs, server) {
-        Ok(packet) => {
-            parts.bag.send(packet)?;
-            Ok(Noted::nothing())
-        }
+        Ok(heard) => hear(&mut parts.bag, client, heard),
         Err(CallStop::Busy) => unreachable!(),
         Err(CallStop::NoMemory) => Err(NoMemory),
     }

@@ -3,24 +3,15 @@
 ghost use Rattle.std.specs.Prelude.{◌≡◌, ◌<◌, length, slice_set, slice_get, true, IfOk, IsSome, Some};
 ghost use Rattle.kr_order.specs.declared.message.Packet.{Packet};
 ghost use Rattle.kr_world.specs.World.{client_at, server_at, packet_at};
-ghost use Rattle.kr_world.specs.Step.{told_to, arrives_at_client, arrives_at_server, delivers, loses};
-ghost use Rattle.cluster_sim.specs.Parts.{world_of, IsWhole, Makes, told_in};
+ghost use Rattle.kr_world.specs.Step.{arrives_at_client, arrives_at_server, delivers, loses};
+ghost use Rattle.cluster_sim.specs.Parts.{world_of, IsWhole, Makes};
 
-use crate::parts::{Bag, Noted, Parts, PartsTelling, Telling};
+use crate::parts::{Bag, Noted, Parts};
 use crate::refusals::index_of;
+use crate::step::calls::hear;
 use crate::step::turns::settle;
-use kr_order::{ClientId, NoMemory, Node, ServerId, ToldReply};
+use kr_order::{ClientId, NoMemory, Node, ServerId};
 use std::alloc::Global;
-
-// What the client is told, with its number.
-fn telling(client: ClientId, told: Option<ToldReply>) -> Option<Telling>
-    ensures { told_in result ≡ told_to client told }
-{
-    match told {
-        None => None,
-        Some(reply) => Some(Telling { client, reply }),
-    }
-}
 
 // A packet arrives at a client, which hears it.
 fn arrive_at_client(parts: &mut Parts, client: ClientId, k: usize) -> Result<Noted, NoMemory>
@@ -36,15 +27,7 @@ fn arrive_at_client(parts: &mut Parts, client: ClientId, k: usize) -> Result<Not
         return Ok(Noted::nothing());
     };
     let heard = parts.clients[i].take(packet)?;
-    Ok(Noted {
-        told: telling(client, heard.told),
-        parts: Some(PartsTelling {
-            client,
-            parts: heard.parts,
-        }),
-        shown: None,
-        refused: None,
-    })
+    hear(&mut parts.bag, client, heard)
 }
 
 // A packet arrives at a server, which reacts to it.

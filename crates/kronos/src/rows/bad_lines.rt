@@ -13,7 +13,7 @@ fn the_first_bad_line_is_named(rt: HostRuntime) -> Result<(), Fail> {
         ("create 1", 1, "bad line 1\n"),
         ("cluster 1 1", 1, "bad line 1\n"),
         ("cluster 9 1\n", 1, "bad line 1\n"),
-        ("cluster 2 1\nquery 1 1 1,2\n", 2, "bad line 2\n"),
+        ("cluster 2 1\nquery 1 1 1!2\n", 2, "bad line 2\n"),
         ("cluster 1 1\ncreate 1\ncreate 0\n", 3, "bad line 3\n"),
         ("cluster 1 1\ncreate 1\ndeliver 01\n", 3, "bad line 3\n"),
         ("cluster 1 1\ncreate 4294967296\n", 2, "bad line 2\n"),

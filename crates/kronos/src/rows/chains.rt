@@ -200,7 +200,7 @@ fn a_command_has_one_place_whatever_becomes_of_its_packets(rt: HostRuntime) -> R
 }
 
 #[test]
-fn a_chain_has_one_to_eight_servers_and_no_queries_yet(rt: HostRuntime) -> Result<(), Fail> {
+fn a_chain_has_one_to_eight_servers(rt: HostRuntime) -> Result<(), Fail> {
     for (script, exit) in [
         ("cluster 1 1\n", Exit::Done),
         ("cluster 8 1\n", Exit::Done),
@@ -213,9 +213,8 @@ fn a_chain_has_one_to_eight_servers_and_no_queries_yet(rt: HostRuntime) -> Resul
         ),
         ("cluster 2 1\ntick 0\n", Exit::BadLine(2)),
         ("cluster 0 1\n", Exit::BadLine(1)),
-        ("cluster 2 1\ncreate 1\nquery 1 1 1,1\n", Exit::BadLine(3)),
-        ("cluster 2 1\nwork 1 1\n", Exit::BadLine(2)),
-        ("cluster 1 1\nquery 1 1 1,1\nwork 1 1\n", Exit::Done),
+        ("cluster 8 1\nquery 1 8 1,1\nwork 8 8\n", Exit::Done),
+        ("cluster 8 1\nwork 8 9\n", Exit::BadLine(2)),
     ] {
         let got = answer(&rt, rt.alloc(), &["script"], script)?;
         assert_eq!(rt; got.exit, exit, "{script}");

@@ -52,6 +52,7 @@ const AN_OLD_EVENT_GOES: &[&str] = &[
     "show 1",
     "release 1 1",
     "show 1",
+    "query 1 1 1,3",
 ];
 
 const WHAT_IT_HELD: &str = "\
@@ -64,6 +65,7 @@ part c1 1 1,3 before at 5 by s1
 show s1 view 1 log 5 done 5 held 3 pairs 2 waiting 0
 told c1 6 at 6 count 0
 show s1 view 1 log 6 done 6 held 1 pairs 0 waiting 0
+part c1 2 1,3 before at 5 by cache
 ";
 
 const A_DEAD_EVENT: &[&str] = &[

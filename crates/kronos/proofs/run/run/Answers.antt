@@ -1,6 +1,9 @@
-use Rattle.std.proofs.Common.{◌++◌, subst, refl}
+use Rattle.std.proofs.Common.{◌++◌, sym, subst, refl}
 use Rattle.kr_world.specs.Lines.{end_lines}
 use Rattle.kr_world.specs.Run.{text_of}
+use Rattle.kr_world.specs.Sound.{HaveBegun}
+use Rattle.kr_world.proofs.CountLemmas.{none_begun}
+use Rattle.cluster_sim.specs.ClusterStanding.{ClusterStanding}
 use Rattle.kronos.specs.Runs.{RanEvents, IsWritten}
 use Rattle.kronos.proofs.RunLemmas.{text_of-some, front_nothing, ended}
 use Rattle.kronos.proofs.run.run.Goals as goal
@@ -17,3 +20,7 @@ returns-in-Ok-run_events g c =
     let ran = subst (λ events. RanEvents c.in-Ok.cluster events last gathered (held c.args.sink.now) (held c.run_events.new.sink)) c.as_slice.ensures c.in-Ok-run_events.ensures.0 in
     let wrote = subst (λ front. IsWritten (front ++ end_lines last.world.history) c.finish.result (held c.run_events.new.sink) (held c.finish.new.sink) (faults c.run_events.new.sink) (faults c.finish.new.sink)) c.as_slice-in-Ok-run_events.ensures.value c.finish.ensures in
     ended c.args.script.now c.in-Ok.cluster last c.finish.result gathered (held c.args.sink.now) (held c.run_events.new.sink) (held c.finish.new.sink) (faults c.args.sink.now) (faults c.run_events.new.sink) (faults c.finish.new.sink) c.in-Ok.ensures ran c.in-Ok-run_events.ensures.1 wrote
+
+pub run_events-requires-clause-first : goal.run_events-requires-clause-first
+run_events-requires-clause-first g c = λ lifetimes bounds.
+    subst (λ (cluster : ClusterStanding). HaveBegun 0 cluster.world.clients) (sym c.in-Ok.ensures) (none_begun c.args.script.now.servers c.args.script.now.clients)

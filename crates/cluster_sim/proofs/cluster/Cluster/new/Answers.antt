@@ -1,4 +1,4 @@
-use Rattle.std.proofs.Common.{◌≡◌, ℕ, ◌++◌, ◌∷◌, [], map, sym, ap, ◌∙◌, false}
+use Rattle.std.proofs.Common.{◌++◌, ◌∷◌, [], map, ap, ◌∙◌, false}
 use Rattle.kr_order.specs.Numbers.{numbers_to}
 use Rattle.kr_protocol.specs.Server.{founder}
 use Rattle.kr_protocol.specs.Client.{new_client}

@@ -3,7 +3,7 @@ use Rattle.std.proofs.lemmas.Option.{slice_get_read}
 use Rattle.kr_world.specs.World.{client_at, server_at}
 use Rattle.kr_world.specs.Step.{client_retries}
 use Rattle.cluster_sim.specs.Parts.{world_of, Makes}
-use Rattle.cluster_sim.proofs.PartsLemmas.{nothing_noted, retrier_there, client_retried}
+use Rattle.cluster_sim.proofs.PartsLemmas.{retrier_there, client_retried}
 use Rattle.cluster_sim.proofs.step.calls.retry.Goals as goal
 
 pub returns-in_ok-send-in-Ok : goal.returns-in_ok-send-in-Ok

@@ -1,26 +1,28 @@
-use Rattle.std.proofs.Common.{◌≡◌, ◌-◌, ◌<◌, length, get_or, refl, ap, ◌∙◌, subst, arith, None, Some}
+use Rattle.std.proofs.Common.{◌≡◌, ◌-◌, ◌<◌, length, get_or, refl, ap, ◌∙◌, subst, arith}
 use Rattle.std.specs.Prelude.{slice_set}
 use Rattle.std.specs.Vec.{with_item}
 use Rattle.std.proofs.lemmas.Option.{slice_get_read, same_Some}
 use Rattle.kr_world.specs.World.{client_at}
 use Rattle.kr_world.specs.Step.{arrives_at_client}
-use Rattle.cluster_sim.specs.declared.parts.Noted.{Noted}
-use Rattle.cluster_sim.specs.Parts.{world_of, Makes}
-use Rattle.cluster_sim.proofs.PartsLemmas.{client_heard}
+use Rattle.cluster_sim.specs.Parts.{world_of, IsSent, IsNotedOf, Makes}
+use Rattle.cluster_sim.proofs.PartsLemmas.{client_heard, noted_so}
 use Rattle.cluster_sim.proofs.step.packets.arrive_at_client.Goals as goal
 
 pub returns : goal.returns
 returns c = λ packet stands.
     let parts = c.args.parts.now in
-    let nodes = c.args.parts.now.clients.items in
-    let i = c.args.client.0 - 1 in
+    let nodes = parts.clients.items in
+    let client = c.args.client in
+    let i = client.0 - 1 in
     let node = c.index_mut.result.now in
     let at : c.index_of-i.result ≡ i = omega (arith, c.index_of-i.ensures, c.from.ensures) in
     let within : i < length nodes = omega (arith, at) in
     let there = slice_get_read nodes (length nodes) i node refl within (c.index_mut.ensures.value ∙ ap (λ n. get_or nodes n node) at) in
-    let clients = with_item c.args.parts.now.clients c.index_of-i.result c.take.new.self in
+    let clients = with_item parts.clients c.index_of-i.result c.take.new.self in
     let changed : clients.items ≡ slice_set nodes i c.take.new.self = ap (λ n. slice_set nodes n c.take.new.self) at in
     let same : c.in-Some.packet.now ≡ packet = same_Some c.in-Some.packet.now packet (c.in-Some.ensures ∙ stands) in
-    let noting : Noted = record { told = c.telling.result; parts = Some (record { client = c.args.client; parts = c.in_ok-heard.heard.parts }); shown = None; refused = None } in
-    let made = client_heard parts clients c.args.client node c.take.new.self c.in-Some.packet.now c.in_ok-heard.heard noting c.requires.whole there changed c.in_ok-heard.ensures refl refl c.telling.ensures refl in
-    subst (λ p. Makes (arrives_at_client (world_of parts) c.args.client p (client_at (world_of parts) c.args.client)) (record parts { clients = clients }) noting) same made
+    let bag = c.hear.new.bag in
+    let heard = c.in_ok-heard.heard in
+    noted_so c.hear.result (IsSent parts.bag bag heard.packets) (IsNotedOf client heard) (Makes (arrives_at_client (world_of parts) client packet (client_at (world_of parts) client)) (record parts { clients = clients; bag = bag })) c.hear.ensures.sent c.hear.ensures.noted (λ noting sent notes.
+    let made = client_heard parts clients bag client node c.take.new.self c.in-Some.packet.now heard noting c.requires.whole there changed c.in_ok-heard.ensures sent notes in
+    subst (λ p. Makes (arrives_at_client (world_of parts) client p (client_at (world_of parts) client)) (record parts { clients = clients; bag = bag }) noting) same made)
