@@ -1,0 +1,3 @@
+pub mod Manager
+pub mod Bounds
+pub mod Evolves
