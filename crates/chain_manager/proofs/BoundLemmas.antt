@@ -1,35 +1,24 @@
 -- How many views there may be: the first view and a view without a server keep the bound.
-use Rattle.std.proofs.Common.{◌≡◌, ℕ, ◌+◌, ◌||◌, ◌≤◌, suc, zero, Bool, true, false, cond, not, eqb, List, [], ◌∷◌, length, refl, ◌∙◌, arith, inl, inr}
+use Rattle.std.proofs.Common.{◌≡◌, ℕ, ◌+◌, ◌||◌, ◌≤◌, suc, Bool, true, false, cond, not, eqb, List, [], ◌∷◌, ◌++◌, length, map, sym, ap, ◌∙◌, arith, inl, inr}
 use Rattle.std.specs.Prelude.{Option, None, Some}
+use Rattle.std.specs.Option.{option_to_list}
 use Rattle.std.proofs.lemmas.Bool.{false≢true}
-use Rattle.std.proofs.lemmas.List.{length-append, length-map}
+use Rattle.std.proofs.lemmas.List.{length-map, append-nil, map-append}
 use Rattle.kr_order.specs.declared.ids.ServerId.{ServerId}
 use Rattle.kr_order.specs.declared.view.View.{View}
 use Rattle.kr_order.specs.Numbers.{numbers_to}
 use Rattle.kr_order.specs.View.{is_joiner, first_view}
-use Rattle.chain_manager.specs.Manager.{names, members_but, joiner_but, without}
+use Rattle.kr_protocol.specs.Manager.{names, members_but, joiner_but, without, view_packet, announces}
 use Rattle.chain_manager.specs.Bounds.{joiners, IsBounded}
-use Rattle.chain_manager.proofs.NameLemmas.{member, named_cases}
-
-length-numbers_to : (n : ℕ) → length (numbers_to n) ≡ n
-length-numbers_to zero = refl
-length-numbers_to (suc n) = omega (arith, length-append (numbers_to n) ((n + 1) ∷ []), length-numbers_to n)
+use Rattle.kr_protocol.proofs.ListLemmas.{length-numbers_to}
+use Rattle.kr_protocol.proofs.NameLemmas.{member, named_cases, fewer}
 
 pub first_bounded : (servers : ℕ) → servers ≤ 64 → IsBounded (first_view servers) servers
 first_bounded servers le =
     let long : length (first_view servers).chain ≡ servers = length-map (numbers_to servers) (λ n. record { 0 = n }) ∙ length-numbers_to servers in
     record { views = omega (arith, long); servers = le }
 
--- no more are left, and fewer where it was one of them
-fewer : (chain : List ServerId) (id : ServerId) → length (members_but chain id) ≤ length chain
-fewer [] id = omega arith
-fewer (one ∷ more) id = by_test (eqb one.0 id.0) (fewer more id)
-  where
-    by_test : (test : Bool) → length (members_but more id) ≤ length more
-        → length (cond (not test) (one ∷ members_but more id) (members_but more id)) ≤ suc (length more)
-    by_test true rest = omega arith
-    by_test false rest = omega arith
-
+-- fewer are left without one of them
 one_fewer : (chain : List ServerId) (id : ServerId) → member chain id ≡ true → length (members_but chain id) + 1 ≤ length chain
 one_fewer [] id is = absurd (false≢true is)
 one_fewer (one ∷ more) id is = by_test (eqb one.0 id.0) is (one_fewer more id)
@@ -71,3 +60,12 @@ without_bounded view made id named bounded =
             servers = bounded.servers;
           }
     ]
+
+-- what is told of a view with a joiner, and of one without
+pub announced : (view : View) (joiner : ServerId) → view.joiner ≡ Some joiner → map (view_packet view) view.chain ++ view_packet view joiner ∷ [] ≡ announces view
+announced view joiner is =
+    sym (ap (λ j. map (view_packet view) (view.chain ++ option_to_list j)) is ∙ map-append (view_packet view) view.chain (joiner ∷ []))
+
+pub announced_alone : (view : View) → view.joiner ≡ None → map (view_packet view) view.chain ≡ announces view
+announced_alone view is =
+    sym (ap (λ j. map (view_packet view) (view.chain ++ option_to_list j)) is ∙ ap (map (view_packet view)) (append-nil view.chain))

@@ -1,3 +1,1 @@
-mod NameLemmas
-mod EvolveLemmas
 mod BoundLemmas

@@ -1,3 +1,1 @@
-pub mod Manager
 pub mod Bounds
-pub mod Evolves

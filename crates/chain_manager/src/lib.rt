@@ -2,11 +2,10 @@
 //!
 //! Contracts see a `Manager` as the views that it made, the last of them current, and how many servers were ever made. It
 //! learns from outside that a server has stopped, that one is to join, and that the joiner has caught up; each makes one
-//! view, which is the one before without a server, with one more, or with the joiner as a member. The laws say how an
-//! earlier view and a later one stand to each other.
+//! view, which is the one before without a server, with one more, or with the joiner as a member. kr_protocol has the laws:
+//! how an earlier view and a later one stand to each other.
 #![tactic(auto)]
 
-pub mod laws;
 mod manager;
 #[cfg(test)]
 mod tests;

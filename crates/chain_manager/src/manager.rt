@@ -1,11 +1,11 @@
 //! The manager and its calls.
 
-ghost use Rattle.std.specs.Prelude.{◌≡◌, ◌≢◌, ◌↔◌, ◌≤◌, ◌<◌, ◌∷◌, [], true, false, not, ◌||◌, ◌==◌, ◌++◌, IsTrue, IsNone, IfOk, IfSome, OnOk, OnErr, Err, Some, None};
+ghost use Rattle.std.specs.Prelude.{◌≡◌, ◌≢◌, ◌↔◌, ◌≤◌, ◌<◌, ◌∷◌, [], true, false, not, ◌||◌, ◌==◌, ◌++◌, IsTrue, IsNone, map, IfOk, IfSome, OnOk, OnErr, Err, Some, None};
 ghost use Rattle.kr_order.specs.View.{in_chain, is_joiner, first_view, last_member};
-ghost use Rattle.chain_manager.specs.Manager.{names, members_but, joiner_but, without, with_joiner, promoted, new_manager, goes_to, may_promote, removes, adds, promotes, next_server};
+ghost use Rattle.kr_protocol.specs.Manager.{names, members_but, joiner_but, without, with_joiner, promoted, new_manager, goes_to, may_promote, removes, adds, promotes, next_server, view_packet, announces};
 ghost use Rattle.chain_manager.specs.Bounds.{IsBounded};
 
-use kr_order::{Copied, Listed, NoMemory, ServerId, Servers, View};
+use kr_order::{Copied, Listed, Message, NoMemory, Node, Packet, Packets, ServerId, Servers, View};
 use std::alloc::Global;
 use std::marker::Model;
 use thiserror::Error;
@@ -54,7 +54,7 @@ pub struct Manager {
 }
 
 impl Model for Manager {
-    ghost use Rattle.chain_manager.specs.Manager.{Manager as Managing};
+    ghost use Rattle.kr_protocol.specs.Manager.{Manager as Managing};
     ghost use Rattle.chain_manager.specs.Bounds.{IsBounded};
 
     ghost Value = { Managing };
@@ -125,6 +125,44 @@ fn without(alloc: Global, view: &View, id: ServerId) -> Result<View, NoMemory>
     })
 }
 
+// The packet to a server, with a view.
+fn view_packet(alloc: Global, view: &View, id: ServerId) -> Result<Packet, NoMemory>
+    ensures { IfOk result (λ packet. packet ≡ view_packet view.now id) }
+{
+    let view = view.copy(alloc)?;
+    Ok(Packet {
+        from: Node::Manager,
+        to: Node::Server(id),
+        message: Message::NewView { view },
+    })
+}
+
+// The packets to these servers, each with the view.
+fn told(alloc: Global, view: &View, ids: &[ServerId]) -> Result<Packets, NoMemory>
+    ensures { IfOk result (λ packets. packets ≡ map (view_packet view.now) ids.now) }
+{
+    let mut packets = Packets::new(alloc);
+    for id in ids {
+        packets.push(view_packet(alloc, view, *id)?)?;
+    }
+    Ok(packets)
+}
+
+// The packets to all whom the view names.
+#[tactic(auto, using(crate::proofs::BoundLemmas::announced, crate::proofs::BoundLemmas::announced_alone))]
+fn announce(alloc: Global, view: &View) -> Result<Packets, NoMemory>
+    ensures { IfOk result (λ packets. packets ≡ announces view.now) }
+{
+    let mut packets = told(alloc, view, view.chain.as_slice())?;
+    match view.joiner {
+        None => Ok(packets),
+        Some(joiner) => {
+            packets.push(view_packet(alloc, view, joiner)?)?;
+            Ok(packets)
+        }
+    }
+}
+
 impl Manager {
     /// The manager of so many servers, 1 to 8, before anything happens: its current view is the first, of all of them.
     #[tactic(auto, using(crate::proofs::BoundLemmas::first_bounded))]
@@ -146,6 +184,20 @@ impl Manager {
         ensures { result.now ≡ self.now.current }
     {
         &self.current
+    }
+
+    /// Whether the current view names the server: as a member of its chain, or as its joiner.
+    pub fn names(&self, id: ServerId) -> bool
+        ensures { result ≡ names self.now.current id }
+    {
+        is_named(&self.current, id)
+    }
+
+    /// The current view in a packet for each whom it names: the members in the order of the chain, then the joiner.
+    pub fn announce(&self) -> Result<Packets, NoMemory>
+        ensures { IfOk result (λ packets. packets ≡ announces self.now.current) }
+    {
+        announce(self.alloc, &self.current)
     }
 
     // Goes on to this view, and answers a copy of it. After `NoMemory` nothing has changed.

@@ -1,7 +1,7 @@
 //! A manager whose servers stop and join.
 
 use super::*;
-use kr_order::{ServerId, View};
+use kr_order::{Node, ServerId, View};
 use std::process::Abort;
 use std::test::Fail;
 
@@ -34,6 +34,13 @@ fn views_follow_one_another(rt: HostRuntime) -> Result<(), Fail> {
     let (id, view) = manager.join()?;
     assert_eq!(&rt; id, ServerId(4));
     is_view(&rt, &view, 3, &[1, 3], Some(4));
+    let told = manager.announce()?;
+    assert_eq!(&rt; told.len(), 3);
+    assert_eq!(&rt;
+        told.get(2).map(|packet| packet.to),
+        Some(Node::Server(ServerId(4)))
+    );
+    assert!(&rt; manager.names(ServerId(4)) && !manager.names(ServerId(2)));
     assert_eq!(&rt; manager.join().err(), Some(Deny::JoinerThere));
     assert!(&rt; manager.joined(ServerId(1), ServerId(4))?.is_none());
     assert!(&rt; manager.joined(ServerId(3), ServerId(5))?.is_none());

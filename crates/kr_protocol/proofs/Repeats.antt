@@ -11,14 +11,14 @@ use Rattle.kr_order.specs.declared.history.DoneEntry.{DoneEntry}
 use Rattle.kr_order.specs.declared.message.Node as nodes
 use Rattle.kr_order.specs.declared.message.Node.TheVariants.{Manager, Client, Server as FromServer}
 use Rattle.kr_order.specs.declared.message.Message.{Message}
-use Rattle.kr_order.specs.declared.message.Message.TheVariants.{Request, Append, Ack, Ask}
+use Rattle.kr_order.specs.declared.message.Message.TheVariants.{Request, Append, Ack, NewView, Ask}
 use Rattle.kr_order.specs.declared.answer.Query.{Query}
 use Rattle.kr_order.specs.History.{highest_seq}
 use Rattle.kr_order.specs.declared.view.View.{View}
 use Rattle.kr_order.specs.View.{prev_of}
 use Rattle.kr_order.specs.Done.{done_of, last_of}
 use Rattle.kr_protocol.specs.Reaction.{Reaction, ignored}
-use Rattle.kr_protocol.specs.Server.{Server, sends, follows, appended, advances, advances_at_tail, enters, may_enter, enters_new, requested, after_request, missing, after_append, acknowledges, feeds, after_ack, most_waiting, is_for_tail, refer_packet, waits, asked_in, after_ask, viewed, is_member, is_at_tail, is_first, is_server, acknowledged, ack, prev, next, window, reply_packet, from_client, from_server, taken_from}
+use Rattle.kr_protocol.specs.Server.{Server, sends, follows, appended, advances, advances_at_tail, enters, may_enter, enters_new, requested, after_request, missing, after_append, acknowledges, feeds, after_ack, most_waiting, is_for_tail, refer_packet, waits, asked_in, after_ask, viewed, is_member, is_at_tail, is_first, is_server, acknowledged, ack, prev, next, window, reply_packet, from_client, from_server, from_manager, taken_from, server_ticks, viewing, are_same, may_adopt, adopts, after_view}
 use Rattle.kr_protocol.specs.Laws.{RepeatsChangeNothing}
 
 -- a command in the log is none of greater number
@@ -190,8 +190,31 @@ server_again server from (Append first entries) = append_again server from first
 server_again server from (Ack done len) = ack_keeps (after_ack server from done len).after from done len
 server_again server from other = refl
 
+-- another view leaves the log as it is
+pub viewing_log : (server : Server) (view : View) → (viewing server view).log ≡ server.log
+viewing_log server view = by_test (are_same (next server) (next (record server { view = Some view })))
+  where
+    by_test : (same : Bool) → (cond same (record server { view = Some view }) (record server { view = Some view; fed = 0 })).log ≡ server.log
+    by_test true = refl
+    by_test false = refl
+
+view_keeps : (server : Server) (view : View) → (after_view server view).after.log ≡ server.log
+view_keeps server view = by_test (may_adopt server view)
+  where
+    by_tail : (tail : Bool) → (follows (cond tail (advances (viewing server view) (length (viewing server view).log)) (sends (viewing server view) [])) server_ticks).after.log ≡ server.log
+    by_tail true = viewing_log server view
+    by_tail false = viewing_log server view
+
+    by_test : (adopted : Bool) → (cond adopted (adopts server view) (ignored server)).after.log ≡ server.log
+    by_test true = by_tail (is_at_tail (viewing server view))
+    by_test false = refl
+
+manager_again : (server : Server) (message : Message) → (from_manager (from_manager server message).after message).after.log ≡ (from_manager server message).after.log
+manager_again server (NewView view) = view_keeps (after_view server view).after view
+manager_again server other = refl
+
 message_again : (server : Server) (from : nodes.Node) (message : Message) → (taken_from (taken_from server from message).after from message).after.log ≡ (taken_from server from message).after.log
-message_again server Manager message = refl
+message_again server Manager message = manager_again server message
 message_again server (Client client) message = client_again server client message
 message_again server (FromServer from) message = server_again server from message
 

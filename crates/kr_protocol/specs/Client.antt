@@ -1,5 +1,5 @@
 -- One client: it has one open call at a time, and is told its reply, or the answers to its pairs.
-use Rattle.std.specs.Prelude.{Bool, true, false, not, ◌&&◌, ◌||◌, is_some, ℕ, ◌+◌, List, [], ◌∷◌, ◌++◌, ◌==◌, nat_lt, max, if◌then◌else◌, Option, None, Some}
+use Rattle.std.specs.Prelude.{Bool, true, false, not, ◌&&◌, ◌||◌, is_some, ℕ, ◌+◌, List, [], ◌∷◌, ◌==◌, nat_lt, max, if◌then◌else◌, Option, None, Some}
 use Rattle.kr_order.specs.declared.ids.ClientId.{ClientId}
 use Rattle.kr_order.specs.declared.ids.ServerId.{ServerId}
 use Rattle.kr_order.specs.declared.history.Command.{Command}
@@ -216,10 +216,14 @@ answers_from client Manager q part told = unheard client
 answers_from client (ToClient other) q part told = unheard client
 answers_from client (Server server) q part told = after_answers client client.asking (teller.Server server) q part told
 
+-- the client knows the view from now on
+abbrev pub learns : Client → View → Client
+learns client view = record client { known = view }
+
 -- the client knows a newer view, and asks the last server of its chain
 abbrev pub turns_to : Client → View → Hearing
 turns_to client view =
-    let after = record client { known = view } in record (unheard after) { sent = asked_again after (last after) after.asking }
+    let after = learns client view in record (unheard after) { sent = asked_again after (last after) after.asking }
 
 -- a server that does not answer the open part of the query has told of its view, which counts where it is newer
 abbrev pub after_refer : Client → Option (List (EventId × EventId)) → ℕ → ℕ → View → Hearing

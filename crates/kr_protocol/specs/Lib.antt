@@ -1,4 +1,6 @@
 pub mod Reaction
+pub mod Manager
+pub mod Evolves
 pub mod Server
 pub mod Cache
 pub mod Client

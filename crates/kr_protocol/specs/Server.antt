@@ -1,5 +1,5 @@
 -- One server of a chain: what it does with each message, and when it works.
-use Rattle.std.specs.Prelude.{length, map, take, drop, min, max, nat_le, ℕ, ◌+◌, ◌-◌, List, [], ◌∷◌, ◌++◌, ◌==◌, nat_lt, find, is_some, Bool, false, not, ◌&&◌, ◌||◌, if◌then◌else◌, Option, None, Some}
+use Rattle.std.specs.Prelude.{length, map, take, drop, min, max, nat_le, ℕ, ◌+◌, ◌-◌, List, [], ◌∷◌, ◌++◌, ◌==◌, nat_lt, find, is_some, Bool, true, false, not, ◌&&◌, ◌||◌, if◌then◌else◌, Option, None, Some}
 use Rattle.kr_order.specs.declared.ids.ClientId.{ClientId}
 use Rattle.kr_order.specs.declared.ids.ServerId.{ServerId}
 use Rattle.kr_order.specs.declared.ids.EventId.{EventId}
@@ -12,13 +12,14 @@ use Rattle.kr_order.specs.declared.history.DoneEntry.{DoneEntry}
 use Rattle.kr_order.specs.declared.message.Node as nodes
 use Rattle.kr_order.specs.declared.message.Node.TheVariants.{Manager, Client, Server as FromServer}
 use Rattle.kr_order.specs.declared.message.Message.{Message}
-use Rattle.kr_order.specs.declared.message.Message.TheVariants.{Request, Append, Ack, Replied, Ask, Answered, Refer}
+use Rattle.kr_order.specs.declared.message.Message.TheVariants.{Request, Append, Ack, NewView, Replied, Ask, Answered, Refer}
 use Rattle.kr_order.specs.declared.message.Packet.{Packet}
 use Rattle.kr_order.specs.declared.view.View.{View}
 use Rattle.kr_order.specs.History.{highest_seq}
 use Rattle.kr_order.specs.Done.{done_of, last_of}
 use Rattle.kr_order.specs.View.{in_chain, next_of, prev_of, is_tail, is_head}
 use Rattle.kr_protocol.specs.Reaction.{Reaction, ignored}
+use Rattle.kr_protocol.specs.Manager.{names}
 
 -- a server: the commands in its log, how many of them are acknowledged, the view that it has adopted, how many
 -- entries the next server is known to have, and the queries that wait
@@ -207,6 +208,40 @@ abbrev pub after_ack : Server → ServerId → ℕ → ℕ → Reaction Server
 after_ack server from done len =
     if is_server (next server) from then follows (acknowledges server (min done (length server.log))) (λ after. feeds after (min len (length after.log))) else ignored server
 
+-- a server whose time has come tells the server before it what it has, and the one behind it what that may lack
+abbrev pub server_ticks : Server → Reaction Server
+server_ticks server = sends server (ack server ++ window server)
+
+-- the number of a server's view, 0 where it has none
+abbrev pub view_number : Option View → ℕ
+view_number None = 0
+view_number (Some view) = view.number
+
+-- these are the same server, or none both
+abbrev pub are_same : Option ServerId → Option ServerId → Bool
+are_same None None = true
+are_same None (Some other) = false
+are_same (Some one) None = false
+are_same (Some one) (Some other) = one.0 == other.0
+
+-- the server with another view: where another follows it by that, this one is not known to have any entry
+abbrev pub viewing : Server → View → Server
+viewing server view =
+    let after = record server { view = Some view } in
+    if are_same (next server) (next after) then after else record after { fed = 0 }
+
+-- a view counts where it is newer than the server's own and names the server
+abbrev pub may_adopt : Server → View → Bool
+may_adopt server view = nat_lt (view_number server.view) view.number && names view server.id
+
+-- the server adopts the view: where it is the tail by that, what stands in its log is acknowledged; who stands before
+-- it learns what it has, and who follows it is sent what that may lack
+abbrev pub adopts : Server → View → Reaction Server
+adopts server view = follows (advances_at_tail (viewing server view)) server_ticks
+
+abbrev pub after_view : Server → View → Reaction Server
+after_view server view = if may_adopt server view then adopts server view else ignored server
+
 -- so many queries wait at the most; a further one is ignored
 abbrev pub most_waiting : ℕ
 most_waiting = 64
@@ -249,9 +284,14 @@ from_server server from (Append first entries) = after_append server from first 
 from_server server from (Ack done len) = after_ack server from done len
 from_server server from other = ignored server
 
+-- the manager sends views
+abbrev pub from_manager : Server → Message → Reaction Server
+from_manager server (NewView view) = after_view server view
+from_manager server other = ignored server
+
 -- who sent the message, and what it says
 abbrev pub taken_from : Server → nodes.Node → Message → Reaction Server
-taken_from server Manager message = ignored server
+taken_from server Manager message = from_manager server message
 taken_from server (Client client) message = from_client server client message
 taken_from server (FromServer from) message = from_server server from message
 
@@ -284,7 +324,3 @@ work_packet server query = worked_in server query server.view
 -- the server answers every waiting query, the oldest first, from its acknowledged prefix
 abbrev pub server_works : Server → Reaction Server
 server_works server = sends (record server { waiting = [] }) (map (work_packet server) server.waiting)
-
--- a server whose time has come tells the server before it what it has, and the one behind it what that may lack
-abbrev pub server_ticks : Server → Reaction Server
-server_ticks server = sends server (ack server ++ window server)

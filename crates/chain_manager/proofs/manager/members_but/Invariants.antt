@@ -1,5 +1,5 @@
 use Rattle.std.proofs.Common.{◌≡◌, take}
-use Rattle.chain_manager.specs.Manager.{members_but}
+use Rattle.kr_protocol.specs.Manager.{members_but}
 use Rattle.chain_manager.proofs.manager.members_but.Given as goal
 
 abbrev pub invariant-loop-member : goal.invariant-loop-member

@@ -1,5 +1,5 @@
 use Rattle.std.proofs.Common.{◌≡◌, true, sym, ap, subst, ◌∙◌}
-use Rattle.chain_manager.specs.Manager.{Manager, names, without}
+use Rattle.kr_protocol.specs.Manager.{Manager, names, without}
 use Rattle.chain_manager.specs.Bounds.{IsBounded}
 use Rattle.chain_manager.proofs.BoundLemmas.{without_bounded}
 use Rattle.chain_manager.proofs.manager.Manager.notice.Goals as goal

@@ -4,7 +4,7 @@ use Rattle.std.specs.List.{AllPairs}
 use Rattle.kr_order.specs.declared.ids.ServerId.{ServerId}
 use Rattle.kr_order.specs.declared.view.View.{View}
 use Rattle.kr_order.specs.View.{in_chain, first_view}
-use Rattle.chain_manager.specs.Manager.{names, members_but, without, with_joiner, promoted}
+use Rattle.kr_protocol.specs.Manager.{Manager, names, members_but, without, with_joiner, promoted, new_manager, goes_to}
 
 -- the next view of one that was current when so many servers were made, and how many then are: without a server that
 -- has stopped, with a new one, or with the joiner as a member. A member is left.
@@ -26,6 +26,15 @@ pub data Leads (stopped : ServerId → Bool) (view : View) (made : ℕ) : View �
       → Leads stopped view made later made_then
       → IsNext stopped later made_then last now
       → Leads stopped view made last now
+
+-- the views of the manager came of one another, from the first on
+pub data Evolves (stopped : ServerId → Bool) : Manager → Type 0 where
+  begins : (servers : ℕ) → 1 ≤ servers → Evolves stopped (new_manager servers)
+  goes_on :
+      (manager : Manager) (next : View) (now : ℕ)
+      → Evolves stopped manager
+      → IsNext stopped manager.current manager.made next now
+      → Evolves stopped (goes_to manager next now)
 
 -- the ids of members rise along the chain, a joiner's is greater, none is greater than that of the last server made,
 -- and there is a member

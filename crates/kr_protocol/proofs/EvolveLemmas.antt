@@ -11,9 +11,9 @@ use Rattle.kr_order.specs.declared.ids.ServerId.{ServerId}
 use Rattle.kr_order.specs.declared.view.View.{View}
 use Rattle.kr_order.specs.Numbers.{numbers_to}
 use Rattle.kr_order.specs.View.{in_chain, is_joiner, first_view}
-use Rattle.chain_manager.specs.Manager.{names, joiner_but, without, with_joiner, promoted}
-use Rattle.chain_manager.specs.Evolves.{IsNext, is_without, is_joined, is_promoted, leads_nowhere, leads_on, IsRising, TheFirstViewRises, AreEarlierAndLater, LaterViewsFollow}
-use Rattle.chain_manager.proofs.NameLemmas.{member, in_chain-member, same_server, member-push, member-but, gone-member, joiner-but, gone-joiner, member-at, named_cases}
+use Rattle.kr_protocol.specs.Manager.{names, joiner_but, without, with_joiner, promoted}
+use Rattle.kr_protocol.specs.Evolves.{IsNext, is_without, is_joined, is_promoted, leads_nowhere, leads_on, IsRising, TheFirstViewRises, AreEarlierAndLater, LaterViewsFollow}
+use Rattle.kr_protocol.proofs.NameLemmas.{member, in_chain-member, same_server, member-push, member-but, gone-member, joiner-but, gone-joiner, member-at, named_cases}
 
 joins_cases : (joiner : Option ServerId) (id : ServerId) → is_joiner joiner id ≡ true → joiner ≡ Some id
 joins_cases None id is = absurd (false≢true is)
@@ -49,7 +49,7 @@ still_named view gone id named =
     ]
 
 -- and the other way
-named_still : (view : View) (gone id : ServerId) → gone.0 ≢ id.0 → names view id ≡ true → names (without view gone) id ≡ true
+pub named_still : (view : View) (gone id : ServerId) → gone.0 ≢ id.0 → names view id ≡ true → names (without view gone) id ≡ true
 named_still view gone id other named =
     let chain : in_chain (without view gone) id ≡ in_chain view id = in_chain-member (without view gone) id ∙ member-but view.chain gone id other ∙ sym (in_chain-member view id) in
     ap (λ b. b || is_joiner (joiner_but view.joiner gone) id) chain ∙ ap (λ b. in_chain view id || b) (joiner-but view.joiner gone id other) ∙ named
@@ -63,7 +63,7 @@ with_cases view joiner id named =
     ]
 
 -- a promotion changes nobody's name
-promoted_names : (view : View) (joiner id : ServerId) → view.joiner ≡ Some joiner → names (promoted view joiner) id ≡ names view id
+pub promoted_names : (view : View) (joiner id : ServerId) → view.joiner ≡ Some joiner → names (promoted view joiner) id ≡ names view id
 promoted_names view joiner id is =
     let chain : in_chain (promoted view joiner) id ≡ (in_chain view id || eqb joiner.0 id.0) = in_chain-member (promoted view joiner) id ∙ member-push view.chain joiner id ∙ ap (λ b. b || eqb joiner.0 id.0) (sym (in_chain-member view id)) in
     ap (λ b. b || false) chain ∙ or_false (in_chain view id || eqb joiner.0 id.0) ∙ ap (λ j. in_chain view id || is_joiner j id) (sym is)
@@ -114,7 +114,7 @@ rises_on stopped view made next now rising (is_promoted joiner is) =
     }
 
 -- a view and the next
-next_follows : (stopped : ServerId → Bool) (view : View) (made : ℕ) (next : View) (now : ℕ) → IsRising view made → IsNext stopped view made next now → AreEarlierAndLater stopped view made next now
+pub next_follows : (stopped : ServerId → Bool) (view : View) (made : ℕ) (next : View) (now : ℕ) → IsRising view made → IsNext stopped view made next now → AreEarlierAndLater stopped view made next now
 next_follows stopped view made next now rising (is_without gone stops named some) =
     record {
       rising = rises_on stopped view made _ _ rising (is_without gone stops named some);
@@ -161,7 +161,7 @@ next_follows stopped view made next now rising (is_promoted joiner is) =
     }
 
 -- a view and itself
-itself_follows : (stopped : ServerId → Bool) (view : View) (made : ℕ) → IsRising view made → AreEarlierAndLater stopped view made view made
+pub itself_follows : (stopped : ServerId → Bool) (view : View) (made : ℕ) → IsRising view made → AreEarlierAndLater stopped view made view made
 itself_follows stopped view made rising =
     record {
       rising = rising;
@@ -173,7 +173,7 @@ itself_follows stopped view made rising =
     }
 
 -- a later view, and the next after it
-follows_on : (stopped : ServerId → Bool) (view : View) (made : ℕ) (later : View) (then_made : ℕ) (last : View) (now : ℕ)
+pub follows_on : (stopped : ServerId → Bool) (view : View) (made : ℕ) (later : View) (then_made : ℕ) (last : View) (now : ℕ)
     → IsRising view made → AreEarlierAndLater stopped view made later then_made → AreEarlierAndLater stopped later then_made last now
     → AreEarlierAndLater stopped view made last now
 follows_on stopped view made later then_made last now rising first second =

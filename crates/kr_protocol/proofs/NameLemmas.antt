@@ -1,12 +1,12 @@
 -- Who is named by a view.
-use Rattle.std.proofs.Common.{◌≡◌, ◌≢◌, ◌⊎◌, ℕ, ◌+◌, ◌<◌, suc, zero, Bool, true, false, cond, not, ◌||◌, eqb, ltb, List, [], ◌∷◌, ◌++◌, length, get_or, refl, sym, ap, ◌∙◌, arith, inl, inr}
+use Rattle.std.proofs.Common.{◌≡◌, ◌≢◌, ◌⊎◌, ℕ, ◌+◌, ◌<◌, ◌≤◌, suc, zero, Bool, true, false, cond, not, ◌||◌, eqb, ltb, List, [], ◌∷◌, ◌++◌, length, get_or, refl, sym, ap, ◌∙◌, arith, inl, inr}
 use Rattle.std.specs.Prelude.{Option, None, Some, is_some, position}
 use Rattle.std.specs.List.{position_or_len}
 use Rattle.std.proofs.lemmas.Bool.{eqb-true, eq-eqb, ne_eqb, cases_lt, lt-ltb, le-ltb}
 use Rattle.kr_order.specs.declared.ids.ServerId.{ServerId}
 use Rattle.kr_order.specs.declared.view.View.{View}
 use Rattle.kr_order.specs.View.{in_chain, is_joiner}
-use Rattle.chain_manager.specs.Manager.{names, members_but, joiner_but}
+use Rattle.kr_protocol.specs.Manager.{names, members_but, joiner_but}
 
 -- the server is among these
 abbrev pub member : List ServerId → ServerId → Bool
@@ -111,14 +111,20 @@ named_cases view id named = by_test (member view.chain id) refl (ap (λ b. b || 
     by_test true is named = inl is
     by_test false is named = inr named
 
--- a member is named
-pub member_named : (view : View) (id : ServerId) → member view.chain id ≡ true → names view id ≡ true
-member_named view id is = ap (λ b. b || is_joiner view.joiner id) (in_chain-member view id ∙ is)
-
--- and so is who joins
+-- who joins is named
 pub joiner_named : (view : View) (id : ServerId) → is_joiner view.joiner id ≡ true → names view id ≡ true
 joiner_named view id is = by_test (in_chain view id)
   where
     by_test : (test : Bool) → (test || is_joiner view.joiner id) ≡ true
     by_test true = refl
     by_test false = is
+
+-- no more are left without one
+pub fewer : (chain : List ServerId) (id : ServerId) → length (members_but chain id) ≤ length chain
+fewer [] id = omega arith
+fewer (one ∷ more) id = by_test (eqb one.0 id.0) (fewer more id)
+  where
+    by_test : (test : Bool) → length (members_but more id) ≤ length more
+        → length (cond (not test) (one ∷ members_but more id) (members_but more id)) ≤ suc (length more)
+    by_test true rest = omega arith
+    by_test false rest = omega arith

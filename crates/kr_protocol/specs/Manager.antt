@@ -1,6 +1,10 @@
 -- The manager of a chain: which views it makes.
-use Rattle.std.specs.Prelude.{ℕ, ◌+◌, Bool, false, not, ◌&&◌, ◌||◌, ◌==◌, if◌then◌else◌, List, [], ◌∷◌, ◌++◌, filter, Option, None, Some}
+use Rattle.std.specs.Prelude.{ℕ, ◌+◌, Bool, false, not, ◌&&◌, ◌||◌, ◌==◌, if◌then◌else◌, List, [], ◌∷◌, ◌++◌, filter, map, Option, None, Some}
+use Rattle.std.specs.Option.{option_to_list}
 use Rattle.kr_order.specs.declared.ids.ServerId.{ServerId}
+use Rattle.kr_order.specs.declared.message.Node.TheVariants as nodes
+use Rattle.kr_order.specs.declared.message.Message.TheVariants.{NewView}
+use Rattle.kr_order.specs.declared.message.Packet.{Packet}
 use Rattle.kr_order.specs.declared.view.View.{View}
 use Rattle.kr_order.specs.View.{in_chain, is_joiner, last_member, first_view}
 
@@ -69,3 +73,19 @@ adds manager = goes_to manager (with_joiner manager.current (next_server manager
 -- the joiner has caught up, and becomes the last member
 abbrev pub promotes : Manager → ServerId → Manager
 promotes manager id = goes_to manager (promoted manager.current id) manager.made
+
+-- all views that it made, the oldest first, the current one last
+abbrev pub views_of : Manager → List View
+views_of manager = manager.earlier ++ manager.current ∷ []
+
+-- whom the view names: the members in the order of the chain, then the joiner
+abbrev pub named_by : View → List ServerId
+named_by view = view.chain ++ option_to_list view.joiner
+
+-- the manager's packet to a server, with a view
+abbrev pub view_packet : View → ServerId → Packet
+view_packet view id = record { from = nodes.Manager; to = nodes.Server id; message = NewView view }
+
+-- the manager tells all whom a view names of it
+abbrev pub announces : View → List Packet
+announces view = map (view_packet view) (named_by view)
