@@ -1,6 +1,6 @@
 -- Events by their lines: each line is of one event.
-use Rattle.std.proofs.Common.{◌≡◌, ◌≢◌, ℕ, ◌+◌, ◌*◌, ◌^◌, ◌<◌, List, [], ◌∷◌, ◌++◌, Bool, true, false, eqb, not, ◌&&◌, get_or, drop, Option, None, Some, refl, sym, ap, ◌∙◌, arith, append_assoc, eq-eqb}
-use Rattle.std.specs.Prelude.{All, codes}
+use Rattle.std.proofs.Common.{◌≡◌, ◌≢◌, ℕ, ◌+◌, ◌*◌, ◌^◌, ◌<◌, List, [], ◌∷◌, ◌++◌, Bool, true, false, eqb, not, ◌&&◌, get_or, drop, None, Some, refl, sym, ap, ◌∙◌, arith, append_assoc, eq-eqb}
+use Rattle.std.specs.Prelude.{codes}
 use Rattle.std.specs.Fmt.{decimal}
 use Rattle.std.proofs.lemmas.Bool.{false≢true}
 use Rattle.std.proofs.lemmas.Fmt.{decimal_injective}
@@ -11,13 +11,13 @@ use Rattle.kr_order.specs.declared.ids.ServerId.{ServerId}
 use Rattle.kr_order.specs.declared.history.Command.TheVariants.{Create, Assign, Acquire, Release}
 use Rattle.kr_order.specs.Text.{pair_word, pair_words, asked_word}
 use Rattle.script_lang.specs.declared.script.Event.{Event}
-use Rattle.script_lang.specs.declared.script.Event.TheVariants.{Call, Query, Retry, Deliver, Lose, Tick, Work, Show}
+use Rattle.script_lang.specs.declared.script.Event.TheVariants.{Call, Query, Retry, Deliver, Lose, Tick, Work, Stop, Notice, Show, Learn}
 use Rattle.script_lang.specs.Line.{HasNoEnd, HasNoSpace}
 use Rattle.script_lang.specs.Number.{IsFromOneTo, BeginsNo}
 use Rattle.script_lang.specs.Event.{IsPair, IsAskedPair, IsEvent, asked_words, event_word, event_words, event_text}
-use Rattle.script_lang.specs.Reading.{ReadsWord, words, one_word, two_words}
+use Rattle.script_lang.specs.Reading.{one_word, two_words}
 use Rattle.script_lang.proofs.LineLemmas.{cut_once, no_end_by_test, free_append}
-use Rattle.script_lang.proofs.NumberLemmas.{decimal_has_no_end, number_once}
+use Rattle.script_lang.proofs.NumberLemmas.{decimal_has_no_end}
 use Rattle.script_lang.proofs.WordLemmas.{words-injective, words_have_no_end, word_once, front_reads, both_reads, one_word-injective, two_words-injective}
 use Rattle.script_lang.proofs.PairLemmas.{same_event, pair_has_no_end, asked_has_no_end, pairs_once, asked_once}
 
@@ -33,7 +33,10 @@ event_word-has_no_end (Deliver k) = no_end_by_test (codes "deliver") refl
 event_word-has_no_end (Lose k) = no_end_by_test (codes "lose") refl
 event_word-has_no_end (Tick who) = no_end_by_test (codes "tick") refl
 event_word-has_no_end (Work server workers) = no_end_by_test (codes "work") refl
+event_word-has_no_end (Stop server) = no_end_by_test (codes "stop") refl
+event_word-has_no_end (Notice server) = no_end_by_test (codes "notice") refl
 event_word-has_no_end (Show server) = no_end_by_test (codes "show") refl
+event_word-has_no_end (Learn client) = no_end_by_test (codes "learn") refl
 
 -- whether no byte is a space
 abbrev spaced_nowhere : List ℕ → Bool
@@ -59,7 +62,10 @@ event_word-has_no_space (Deliver k) = no_space_by_test (codes "deliver") refl
 event_word-has_no_space (Lose k) = no_space_by_test (codes "lose") refl
 event_word-has_no_space (Tick who) = no_space_by_test (codes "tick") refl
 event_word-has_no_space (Work server workers) = no_space_by_test (codes "work") refl
+event_word-has_no_space (Stop server) = no_space_by_test (codes "stop") refl
+event_word-has_no_space (Notice server) = no_space_by_test (codes "notice") refl
 event_word-has_no_space (Show server) = no_space_by_test (codes "show") refl
+event_word-has_no_space (Learn client) = no_space_by_test (codes "learn") refl
 
 -- what follows it begins with a space
 pub event_words-begin : (event : Event) → BeginsNo (λ b. b ≢ 32) (event_words event)
@@ -73,7 +79,10 @@ event_words-begin (Deliver k) = λ other. other refl
 event_words-begin (Lose k) = λ other. other refl
 event_words-begin (Tick who) = λ other. other refl
 event_words-begin (Work server workers) = λ other. other refl
+event_words-begin (Stop server) = λ other. other refl
+event_words-begin (Notice server) = λ other. other refl
 event_words-begin (Show server) = λ other. other refl
+event_words-begin (Learn client) = λ other. other refl
 
 -- the first and the fourth letter of a first word, which tell it
 abbrev pub word_key : List ℕ → ℕ
@@ -102,10 +111,13 @@ event_words-has_no_end (Query client server pairs) fit =
 event_words-has_no_end (Retry client server) fit = two_words-has_no_end 4294967295 4294967295 client.0 server.0 (omega arith) (omega arith) fit.client_fits fit.server_fits
 event_words-has_no_end (Deliver k) fit = one_word-has_no_end 4294967295 k (omega arith) fit
 event_words-has_no_end (Lose k) fit = one_word-has_no_end 4294967295 k (omega arith) fit
-event_words-has_no_end (Tick None) fit = absurd fit
+event_words-has_no_end (Tick None) fit = free_append (codes " ") (decimal 0) (no_end_by_test (codes " ") refl) (decimal_has_no_end 0 (omega arith))
 event_words-has_no_end (Tick (Some server)) fit = one_word-has_no_end 4294967295 server.0 (omega arith) fit
 event_words-has_no_end (Work server workers) fit = two_words-has_no_end 4294967295 8 server.0 workers (omega arith) (omega arith) fit.server_fits fit.workers_fit
+event_words-has_no_end (Stop server) fit = one_word-has_no_end 4294967295 server.0 (omega arith) fit
+event_words-has_no_end (Notice server) fit = one_word-has_no_end 4294967295 server.0 (omega arith) fit
 event_words-has_no_end (Show server) fit = one_word-has_no_end 4294967295 server.0 (omega arith) fit
+event_words-has_no_end (Learn client) fit = one_word-has_no_end 4294967295 client.0 (omega arith) fit
 
 -- no event's text has an LF in it
 pub event_text-has_no_end : (event : Event) → IsEvent event → HasNoEnd (event_text event)
@@ -116,6 +128,11 @@ same_client one other same = ap (λ n. let c : ClientId = record { 0 = n } in c)
 
 same_server : (one other : ServerId) → one.0 ≡ other.0 → one ≡ other
 same_server one other same = ap (λ n. let s : ServerId = record { 0 = n } in s) same
+
+-- no server is spelt as the manager is
+pub no_server_zero : (server : ServerId) → IsFromOneTo 4294967295 server.0 → one_word server.0 ≢ one_word 0
+no_server_zero server fit same =
+    absurd (omega (arith, fit.low, decimal_injective server.0 0 (omega (arith, fit.high)) (omega arith) (ap (drop 1) same)))
 
 -- an event is known by the words of its line
 event-by_words : (one other : Event) → IsEvent one → IsEvent other → event_word one ≡ event_word other → event_words one ≡ event_words other → one ≡ other
@@ -141,13 +158,20 @@ event-by_words (Deliver k) (Deliver k') fit fit' _ same = ap Deliver (one_word-i
 event-by_words (Lose k) (Lose k') fit fit' _ same = ap Lose (one_word-injective 4294967295 k k' (omega arith) fit fit' same)
 event-by_words (Tick (Some server)) (Tick (Some server')) fit fit' _ same =
     ap (λ s. Tick (Some s)) (same_server server server' (one_word-injective 4294967295 server.0 server'.0 (omega arith) fit fit' same))
-event-by_words (Tick None) other fit _ _ _ = absurd fit
-event-by_words one (Tick None) _ fit' _ _ = absurd fit'
+event-by_words (Tick None) (Tick None) _ _ _ _ = refl
+event-by_words (Tick None) (Tick (Some server)) _ fit _ same = absurd (no_server_zero server fit (sym same))
+event-by_words (Tick (Some server)) (Tick None) fit _ _ same = absurd (no_server_zero server fit same)
 event-by_words (Work server workers) (Work server' workers') fit fit' _ same =
     let both = two_words-injective 4294967295 8 server.0 workers server'.0 workers' (omega arith) (omega arith) fit.server_fits fit.workers_fit fit'.server_fits fit'.workers_fit same in
     ap (λ s. Work s workers) (same_server server server' both.0) ∙ ap (λ w. Work server' w) both.1
+event-by_words (Stop server) (Stop server') fit fit' _ same =
+    ap Stop (same_server server server' (one_word-injective 4294967295 server.0 server'.0 (omega arith) fit fit' same))
+event-by_words (Notice server) (Notice server') fit fit' _ same =
+    ap Notice (same_server server server' (one_word-injective 4294967295 server.0 server'.0 (omega arith) fit fit' same))
 event-by_words (Show server) (Show server') fit fit' _ same =
     ap Show (same_server server server' (one_word-injective 4294967295 server.0 server'.0 (omega arith) fit fit' same))
+event-by_words (Learn client) (Learn client') fit fit' _ same =
+    ap Learn (same_client client client' (one_word-injective 4294967295 client.0 client'.0 (omega arith) fit fit' same))
 event-by_words one (Call client' Create) _ _ named _ = absurd (omega (arith, ap word_key named))
 event-by_words one other _ _ named _ = absurd (omega (arith, ap word_key named))
 

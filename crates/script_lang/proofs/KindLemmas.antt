@@ -9,7 +9,7 @@ use Rattle.kr_order.specs.declared.batch.Pair.{Pair}
 use Rattle.kr_order.specs.declared.history.Command.TheVariants.{Create, Assign, Acquire, Release}
 use Rattle.kr_order.specs.Text.{pair_word, pair_words, asked_word}
 use Rattle.script_lang.specs.declared.script.Event.{Event}
-use Rattle.script_lang.specs.declared.script.Event.TheVariants.{Call, Query, Retry, Deliver, Lose, Tick, Work, Show}
+use Rattle.script_lang.specs.declared.script.Event.TheVariants.{Call, Query, Retry, Tick, Work}
 use Rattle.script_lang.specs.Line.{IsWordCut}
 use Rattle.script_lang.specs.Number.{IsFromOneTo}
 use Rattle.script_lang.specs.Event.{IsPair, IsAskedPair, ArePairs, IsEvent, asked_words, event_word, event_words, event_text}
@@ -49,6 +49,13 @@ no_work words none (Work server workers) fit is =
     none (server.0, workers) (record { first = fit.fit.server_fits; second = fit.fit.workers_fit }) is
 no_work words none (Call client Create) fit is = absurd (omega (arith, ap word_key fit.named))
 no_work words none event fit is = absurd (omega (arith, ap word_key fit.named))
+
+-- words that are neither 0 nor another number give no tick
+pub no_tick : (words : List ℕ) → words ≢ one_word 0 → ((n : ℕ) → IsFromOneTo 4294967295 n → words ≢ one_word n) → (event : Event) → IsEventOf (codes "tick") event → words ≢ event_words event
+no_tick words manager none (Tick None) fit is = manager is
+no_tick words manager none (Tick (Some server)) fit is = none server.0 fit.fit is
+no_tick words manager none (Call client Create) fit is = absurd (omega (arith, ap word_key fit.named))
+no_tick words manager none event fit is = absurd (omega (arith, ap word_key fit.named))
 
 -- which words give an assign: a client's number, and then a batch
 pub no_assign : (words : List ℕ) → ((client : ClientId) (batch : List Pair) → ReadsWord decimal (IsFromOneTo 4294967295) words client.0 (pair_words batch) → ArePairs IsPair batch → ⊥) → (event : Event) → IsEventOf (codes "assign") event → words ≢ event_words event

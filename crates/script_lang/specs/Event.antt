@@ -9,7 +9,7 @@ use Rattle.kr_order.specs.declared.history.Command.{Command}
 use Rattle.kr_order.specs.declared.history.Command.TheVariants.{Create, Assign, Acquire, Release}
 use Rattle.kr_order.specs.Text.{command_word, command_words, asked_word}
 use Rattle.script_lang.specs.declared.script.Event.{Event}
-use Rattle.script_lang.specs.declared.script.Event.TheVariants.{Call, Query, Retry, Deliver, Lose, Tick, Work, Show}
+use Rattle.script_lang.specs.declared.script.Event.TheVariants.{Call, Query, Retry, Deliver, Lose, Tick, Work, Stop, Notice, Show, Learn}
 use Rattle.script_lang.specs.Number.{IsFromOneTo}
 
 -- a number of a client, a server or a packet, as a line may give it
@@ -59,9 +59,9 @@ pub record IsRetry (client : ClientId) (server : ServerId) : Type 0 where
   pub client_fits : IsNumber client.0
   pub server_fits : IsNumber server.0
 
--- a server that some line ticks; none is the manager, which no line ticks
+-- a server that some line ticks, or the manager, which is none
 abbrev pub IsTicked : Option ServerId → Type 0
-IsTicked None = ⊥
+IsTicked None = Unit {0}
 IsTicked (Some server) = IsNumber server.0
 
 -- work that some line gives a server
@@ -78,7 +78,10 @@ IsEvent (Deliver k) = IsNumber k
 IsEvent (Lose k) = IsNumber k
 IsEvent (Tick who) = IsTicked who
 IsEvent (Work server workers) = IsWork server workers
+IsEvent (Stop server) = IsNumber server.0
+IsEvent (Notice server) = IsNumber server.0
 IsEvent (Show server) = IsNumber server.0
+IsEvent (Learn client) = IsNumber client.0
 
 -- the words of a query, each with a space before it
 abbrev pub asked_words : List (EventId × EventId) → List ℕ
@@ -98,7 +101,10 @@ event_word (Deliver k) = codes "deliver"
 event_word (Lose k) = codes "lose"
 event_word (Tick who) = codes "tick"
 event_word (Work server workers) = codes "work"
+event_word (Stop server) = codes "stop"
+event_word (Notice server) = codes "notice"
 event_word (Show server) = codes "show"
+event_word (Learn client) = codes "learn"
 
 -- the words that follow it, each with a space before it
 abbrev pub event_words : Event → List ℕ
@@ -110,7 +116,10 @@ event_words (Deliver k) = codes " " ++ decimal k
 event_words (Lose k) = codes " " ++ decimal k
 event_words (Tick who) = codes " " ++ decimal (ticked_number who)
 event_words (Work server workers) = codes " " ++ decimal server.0 ++ codes " " ++ decimal workers
+event_words (Stop server) = codes " " ++ decimal server.0
+event_words (Notice server) = codes " " ++ decimal server.0
 event_words (Show server) = codes " " ++ decimal server.0
+event_words (Learn client) = codes " " ++ decimal client.0
 
 -- its line, without the end
 abbrev pub event_text : Event → List ℕ

@@ -52,8 +52,14 @@ fn event_by(alloc: Global, word: &[u8], words: &[u8]) -> Result<Option<Event>, N
         Ok(tick_of(words))
     } else if is(word, b"work") {
         Ok(work_of(words))
+    } else if is(word, b"stop") {
+        Ok(stop_of(words))
+    } else if is(word, b"notice") {
+        Ok(notice_of(words))
     } else if is(word, b"show") {
         Ok(show_of(words))
+    } else if is(word, b"learn") {
+        Ok(learn_of(words))
     } else {
         Ok(None)
     }
@@ -158,10 +164,13 @@ fn lose_of(words: &[u8]) -> Option<Event>
     Some(Event::Lose(k))
 }
 
-// The event of `tick s`, behind the first word.
+// The event of `tick s`, behind the first word, where server 0 is the manager.
 fn tick_of(words: &[u8]) -> Option<Event>
     ensures { Spells event_words (IsEventOf (codes "tick")) words.now result }
 {
+    if is(words, b" 0") {
+        return Some(Event::Tick(None));
+    }
     let server = one_number(words, MOST)?;
     Some(Event::Tick(Some(ServerId(server as u32))))
 }
@@ -177,10 +186,34 @@ fn work_of(words: &[u8]) -> Option<Event>
     })
 }
 
+// The event of `stop s`, behind the first word.
+fn stop_of(words: &[u8]) -> Option<Event>
+    ensures { Spells event_words (IsEventOf (codes "stop")) words.now result }
+{
+    let server = one_number(words, MOST)?;
+    Some(Event::Stop(ServerId(server as u32)))
+}
+
+// The event of `notice s`, behind the first word.
+fn notice_of(words: &[u8]) -> Option<Event>
+    ensures { Spells event_words (IsEventOf (codes "notice")) words.now result }
+{
+    let server = one_number(words, MOST)?;
+    Some(Event::Notice(ServerId(server as u32)))
+}
+
 // The event of `show s`, behind the first word.
 fn show_of(words: &[u8]) -> Option<Event>
     ensures { Spells event_words (IsEventOf (codes "show")) words.now result }
 {
     let server = one_number(words, MOST)?;
     Some(Event::Show(ServerId(server as u32)))
+}
+
+// The event of `learn c`, behind the first word.
+fn learn_of(words: &[u8]) -> Option<Event>
+    ensures { Spells event_words (IsEventOf (codes "learn")) words.now result }
+{
+    let client = one_number(words, MOST)?;
+    Some(Event::Learn(ClientId(client as u32)))
 }

@@ -26,7 +26,7 @@ pub fn print_first(alloc: Global, servers: u32, clients: u32) -> Result<Vec<u8>,
     Ok(out)
 }
 
-/// The event's line with its LF, in its one spelling. A tick of the manager is `tick 0`. `NoMemory` comes where
+/// The event's line with its LF, in its one spelling. `NoMemory` comes where
 /// there is no memory for it.
 pub fn print_line(alloc: Global, event: &Event) -> Result<Vec<u8>, NoMemory>
     ensures { IfOk result (λ bytes. bytes.items ≡ line (event_text event.now)) }
@@ -50,7 +50,10 @@ fn add_event_word(out: &mut Vec<u8>, event: &Event) -> Result<(), NoMemory>
         Event::Lose(_) => add_text(out, b"lose"),
         Event::Tick(_) => add_text(out, b"tick"),
         Event::Work { .. } => add_text(out, b"work"),
+        Event::Stop(_) => add_text(out, b"stop"),
+        Event::Notice(_) => add_text(out, b"notice"),
         Event::Show(_) => add_text(out, b"show"),
+        Event::Learn(_) => add_text(out, b"learn"),
     }
 }
 
@@ -75,7 +78,10 @@ fn add_event_words(out: &mut Vec<u8>, event: &Event) -> Result<(), NoMemory>
         Event::Deliver(k) | Event::Lose(k) => add_number_word(out, *k),
         Event::Tick(who) => add_number_word(out, u64::from(number_of_tick(*who))),
         Event::Work { server, workers } => add_two(out, server.0, *workers),
-        Event::Show(server) => add_number_word(out, u64::from(server.0)),
+        Event::Stop(server) | Event::Notice(server) | Event::Show(server) => {
+            add_number_word(out, u64::from(server.0))
+        }
+        Event::Learn(client) => add_number_word(out, u64::from(client.0)),
     }
 }
 

@@ -27,15 +27,22 @@ pub enum Event {
     Deliver(u64),
     /// `lose k`: packet k is delivered no more.
     Lose(u64),
-    /// `tick s`: the server tells the others again how far it is. `None` is the manager, which no line ticks.
+    /// `tick s`: the server tells the others again how far it is; `tick 0`, where it is `None`: the manager tells the
+    /// servers again of its current view.
     Tick(Option<ServerId>),
     /// `work s w`: the server answers the queries that wait there, by so many workers.
     Work {
         server: ServerId,
         workers: u32,
     },
+    /// `stop s`: the server stops, for good.
+    Stop(ServerId),
+    /// `notice s`: the manager hears that the server has stopped, and makes the next view, without it.
+    Notice(ServerId),
     /// `show s`: what the server holds is printed.
     Show(ServerId),
+    /// `learn c`: the client learns the manager's current view.
+    Learn(ClientId),
 }
 
 /// The events of a script, in order.
@@ -76,7 +83,10 @@ impl Copied for Event {
                 server: *server,
                 workers: *workers,
             }),
+            Event::Stop(server) => Ok(Event::Stop(*server)),
+            Event::Notice(server) => Ok(Event::Notice(*server)),
             Event::Show(server) => Ok(Event::Show(*server)),
+            Event::Learn(client) => Ok(Event::Learn(*client)),
         }
     }
 }

@@ -2,7 +2,7 @@ use Rattle.std.proofs.Common.{◌≡◌, subst, arith}
 use Rattle.script_lang.specs.Event.{ArePairs, IsAskedPair, asked_words}
 use Rattle.script_lang.specs.Reading.{Spells}
 use Rattle.script_lang.proofs.PairLemmas.{asked_once}
-use Rattle.script_lang.proofs.KindLemmas.{query_without_client, query_without_server, query_without_pairs, no_pairs_alone}
+use Rattle.script_lang.proofs.KindLemmas.{query_without_server, query_without_pairs, no_pairs_alone}
 use Rattle.script_lang.proofs.events.query_of.Goals as goal
 
 pub returns-in_default-number_word : goal.returns-in_default-number_word

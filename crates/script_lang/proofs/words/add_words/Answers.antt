@@ -1,4 +1,4 @@
-use Rattle.std.proofs.Common.{◌≡◌, ◌++◌, ap, take, append_assoc, ◌∙◌}
+use Rattle.std.proofs.Common.{◌++◌, ap, take, append_assoc, ◌∙◌}
 use Rattle.std.specs.Prelude.{codes}
 use Rattle.script_lang.specs.Reading.{words}
 use Rattle.script_lang.proofs.PrintLemmas.{keeps_front, on_err}
