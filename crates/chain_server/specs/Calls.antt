@@ -1,21 +1,15 @@
 -- What the calls of a server do.
-use Rattle.std.specs.Prelude.{ℕ, List, ◌≡◌, ◌++◌, true, false, Option, None, Some, Result, Ok, Err}
+use Rattle.std.specs.Prelude.{ℕ, List, ◌≡◌, ◌++◌, true, false, Result, Ok, Err}
 use Rattle.kr_order.specs.declared.ids.ClientId.{ClientId}
 use Rattle.kr_order.specs.declared.ids.EventId.{EventId}
 use Rattle.kr_order.specs.declared.answer.Query.{Query}
 use Rattle.kr_order.specs.declared.ids.NoMemory.{NoMemory as OutOfMemory}
 use Rattle.kr_order.specs.declared.message.Packet.{Packet}
-use Rattle.kr_order.specs.declared.view.View.{View}
 use Rattle.kr_order.specs.Done.{done_of}
 use Rattle.kr_protocol.specs.Reaction.{Reaction}
 use Rattle.kr_protocol.specs.Server.{Server, acknowledged, server_takes}
 use Rattle.chain_server.specs.declared.effects.Effects.{Effects}
 use Rattle.chain_server.specs.ServerStanding.{ServerStanding}
-
--- the number of a server's view, 0 where it has none
-abbrev pub number_of : Option View → ℕ
-number_of None = 0
-number_of (Some view) = view.number
 
 -- the server does as this reaction says, and tells the entries that it has newly applied
 pub record Heeds (old : ServerStanding) (reaction : Reaction Server) (effects : Effects) (new : ServerStanding) : Type 0 where

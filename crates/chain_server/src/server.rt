@@ -5,12 +5,13 @@ mod appends;
 mod asks;
 mod requests;
 mod sends;
+mod views;
 
 ghost use Rattle.std.specs.Prelude.{◌≡◌, ◌+◌, ◌≤◌, ◌^◌, [], ◌∷◌, ◌++◌, length, min, false, IfOk, OnOk, OnErr};
 ghost use Rattle.kr_protocol.specs.Reaction.{ignored};
-ghost use Rattle.kr_protocol.specs.Server.{founder, is_server, acknowledged, advances};
+ghost use Rattle.kr_protocol.specs.Server.{founder, is_server, view_number, acknowledged, advances};
 ghost use Rattle.kr_order.specs.Held.{held_events, held_pairs};
-ghost use Rattle.chain_server.specs.Calls.{Takes, Does, number_of};
+ghost use Rattle.chain_server.specs.Calls.{Takes, Does};
 
 use crate::Effects;
 use crate::advance::apply_upto;
@@ -77,9 +78,16 @@ impl<B: Board> Server<B> {
         }
     }
 
+    /// The server's number.
+    pub fn id(&self) -> ServerId
+        ensures { result ≡ self.now.server.id }
+    {
+        self.id
+    }
+
     /// The number of the view that the server has adopted.
     pub fn view_number(&self) -> u64
-        ensures { result ≡ number_of self.now.server.view }
+        ensures { result ≡ view_number self.now.server.view }
     {
         self.view.number
     }
@@ -128,7 +136,10 @@ impl<B: Board> Server<B> {
             return Err(NoMemory);
         }
         match packet.from {
-            Node::Manager => Ok(Effects::none(self.alloc)),
+            Node::Manager => match &packet.message {
+                Message::NewView { view } => self.take_view(view),
+                _ => Ok(Effects::none(self.alloc)),
+            },
             Node::Client(client) => match &packet.message {
                 Message::Request { seq, command } => self.take_request(client, *seq, command),
                 Message::Ask { q, part, pairs } => self.take_ask(client, *q, *part, pairs),

@@ -15,18 +15,33 @@ const MIDDLE: ServerId = ServerId(2);
 
 const TAIL: ServerId = ServerId(3);
 
-// A server of the view of three.
-fn member(alloc: Global, id: ServerId) -> Result<Server<PlainBoard>, NoMemory> {
+// A view of these servers.
+fn view_of(alloc: Global, number: u64, members: &[ServerId]) -> Result<View, NoMemory> {
     let mut chain = Servers::new(alloc);
-    chain.push(HEAD)?;
-    chain.push(MIDDLE)?;
-    chain.push(TAIL)?;
-    let view = View {
-        number: 1,
+    for member in members {
+        chain.push(*member)?;
+    }
+    Ok(View {
+        number,
         chain,
         joiner: None,
-    };
+    })
+}
+
+// A server of the view of three.
+fn member(alloc: Global, id: ServerId) -> Result<Server<PlainBoard>, NoMemory> {
+    let view = view_of(alloc, 1, &[HEAD, MIDDLE, TAIL])?;
     Ok(Server::founder(alloc, id, view, PlainBoard::new(alloc)))
+}
+
+// The manager's packet to the middle server, with the view of this number, in which it is the last.
+fn without_tail(alloc: Global, number: u64) -> Result<Packet, NoMemory> {
+    let view = view_of(alloc, number, &[HEAD, MIDDLE])?;
+    Ok(Packet {
+        from: Node::Manager,
+        to: Node::Server(MIDDLE),
+        message: Message::NewView { view },
+    })
 }
 
 // A packet of client 7 to a server.
@@ -120,19 +135,21 @@ fn a_tick_sends_the_acknowledgement_and_the_window(rt: HostRuntime) -> Result<()
     Ok(())
 }
 
-// Whether these are one packet that refers to the first view.
-fn is_refer(packets: &Packets) -> bool {
-    match packets.as_slice() {
-        [packet] => match &packet.message {
-            Message::Refer {
-                q: 1,
-                part: 2,
-                view,
-            } => view.number == 1,
-            _ => false,
-        },
-        _ => false,
-    }
+// The middle server with the first entry in its log.
+fn middle_with_entry(alloc: Global) -> Result<Server<PlainBoard>, NoMemory> {
+    let mut middle = member(alloc, MIDDLE)?;
+    let _ = middle.take(&first_entry(alloc, HEAD, MIDDLE)?)?;
+    Ok(middle)
+}
+
+#[test]
+fn a_newer_view_makes_a_tail(rt: HostRuntime) -> Result<(), Fail> {
+    let mut middle = middle_with_entry(rt.alloc())?;
+    let adopted = middle.take(&without_tail(rt.alloc(), 2)?)?;
+    // a reply to the client, then an acknowledgement to the server before
+    let is_tail = middle.view_number() == 2 && middle.done() == 1;
+    assert!(&rt; is_tail && adopted.packets.len() == 2);
+    Ok(())
 }
 
 #[test]
@@ -142,9 +159,6 @@ fn a_server_that_is_not_the_tail_is_unsure(rt: HostRuntime) -> Result<(), Fail> 
     let _ = head.take(&query(alloc, HEAD, 1)?)?;
     let worked = head.work(&rt, 1)?;
     assert!(&rt; is_answer(&worked.packets, Answer::Unsure));
-    let referred = head.take(&query(alloc, HEAD, 2)?)?;
-    assert!(&rt; is_refer(&referred.packets));
-    assert_eq!(&rt; (head.waiting(), head.view_number()), (0, 1));
     Ok(())
 }
 

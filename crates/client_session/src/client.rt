@@ -2,9 +2,9 @@
 
 mod hears;
 
-ghost use Rattle.std.specs.Prelude.{◌≡◌, ◌^◌, ◌<◌, ℕ, true, false, None, [], IfOk};
+ghost use Rattle.std.specs.Prelude.{◌≡◌, ◌^◌, ◌<◌, ℕ, true, false, None, [], IfOk, OnOk, OnErr};
 ghost use Rattle.kr_order.specs.View.{last_member};
-ghost use Rattle.kr_protocol.specs.Client.{new_client, first_of, server_or_none, remaining, is_busy, says, asked_again};
+ghost use Rattle.kr_protocol.specs.Client.{new_client, first_of, server_or_none, remaining, is_busy, says, asked_again, learns};
 ghost use Rattle.client_session.specs.Calls.{Begins, Asks, Retries};
 
 use crate::lookups::{Looked, look_up};
@@ -269,6 +269,22 @@ impl Client {
             (None, None) => return Err(RetryStop::NothingOpen),
         };
         Ok(self.says(server, message))
+    }
+
+    /// The client knows this view from now on: commands go to its first server, and what is unsure to its last. An
+    /// open call stays as it is. After `NoMemory` the client has failed.
+    pub fn learn(&mut self, view: &View) -> Result<(), NoMemory>
+        ensures ok { OnOk result (self.new ≡ record { client = learns self.old.client view.now; failed = false }) }
+        ensures whole { OnOk result (self.old.failed ≡ false) }
+        ensures err { OnErr result (self.new.failed ≡ true) }
+    {
+        if self.failed {
+            return Err(NoMemory);
+        }
+        self.failed = true;
+        self.known = view.copy(self.alloc)?;
+        self.failed = false;
+        Ok(())
     }
 
     /// The view that the client knows.

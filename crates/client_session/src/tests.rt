@@ -80,15 +80,20 @@ fn answered(alloc: Global, from: ServerId, part: u8, answer: Answer) -> Result<P
     Ok(said(from, Message::Answered { q: 1, part, told }))
 }
 
-// A newer view, in which the second server is the whole chain.
-fn referred(alloc: Global, number: u64) -> Result<Packet, NoMemory> {
+// A view of one server.
+fn view_of_one(alloc: Global, number: u64, server: ServerId) -> Result<View, NoMemory> {
     let mut chain = Servers::new(alloc);
-    chain.push(HEAD)?;
-    let view = View {
+    chain.push(server)?;
+    Ok(View {
         number,
         chain,
         joiner: None,
-    };
+    })
+}
+
+// A view in which the first server is the whole chain, as it refers the client to it.
+fn referred(alloc: Global, number: u64) -> Result<Packet, NoMemory> {
+    let view = view_of_one(alloc, number, HEAD)?;
     Ok(said(
         HEAD,
         Message::Refer {
@@ -105,6 +110,14 @@ fn an_open_command_is_requested_again_with_its_number(rt: HostRuntime) -> Result
     assert!(&rt; is_request(&client.begin(Command::Create)?, HEAD, 1));
     assert!(&rt; is_request(&client.retry(TAIL)?, TAIL, 1));
     assert!(&rt; is_request(&client.retry(HEAD)?, HEAD, 1));
+    Ok(())
+}
+
+#[test]
+fn a_command_goes_to_the_first_server_of_a_learned_view(rt: HostRuntime) -> Result<(), Fail> {
+    let mut client = client(rt.alloc())?;
+    client.learn(&view_of_one(rt.alloc(), 2, TAIL)?)?;
+    assert!(&rt; is_request(&client.begin(Command::Create)?, TAIL, 1));
     Ok(())
 }
 

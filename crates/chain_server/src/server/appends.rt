@@ -27,7 +27,7 @@ impl<B: Board> Server<B> {
     }
 
     // What is in the log is acknowledged where the server is the tail.
-    fn advance_at_tail(&mut self) -> Result<Effects, NoMemory>
+    pub(super) fn advance_at_tail(&mut self) -> Result<Effects, NoMemory>
         requires { self.old.failed ≡ false }
         ensures { Does self.old (advances_at_tail self.old.server) result self.new }
     {

@@ -1,6 +1,6 @@
 //! What a server sends to the servers beside it, and what it does when its time has come.
 
-ghost use Rattle.std.specs.Prelude.{◌≡◌, IfOk};
+ghost use Rattle.std.specs.Prelude.{◌≡◌, ◌++◌, IfOk};
 ghost use Rattle.kr_protocol.specs.Server.{window, ack_to, ack, server_ticks};
 ghost use Rattle.chain_server.specs.Calls.{Does};
 
@@ -42,6 +42,16 @@ impl<B: Board> Server<B> {
         self.ack_to(self.view.prev_of(self.id))
     }
 
+    // What the server sends when its time has come.
+    pub(super) fn ticks(&self) -> Result<Packets, NoMemory>
+        ensures { IfOk result (λ packets. packets ≡ ack self.now.server ++ window self.now.server) }
+    {
+        let mut packets = self.ack()?;
+        let window = self.window()?;
+        packets.append(window)?;
+        Ok(packets)
+    }
+
     /// The server's time has come: it tells the server before it what it has, and passes on to the next one what
     /// that may lack. The server itself stays as it is, unless it fails.
     pub fn tick(&mut self) -> Result<Effects, NoMemory>
@@ -51,9 +61,7 @@ impl<B: Board> Server<B> {
             return Err(NoMemory);
         }
         self.failed = true;
-        let mut packets = self.ack()?;
-        let window = self.window()?;
-        packets.append(window)?;
+        let packets = self.ticks()?;
         self.failed = false;
         Ok(Effects::of_packets(self.alloc, packets))
     }
