@@ -1,35 +1,38 @@
 -- Every step keeps the facts.
-use Rattle.std.proofs.Common.{◌≡◌, ℕ, ◌-◌, ◌≤◌, List, refl, sym, subst}
-use Rattle.std.specs.Prelude.{Bool, Option, None, Some}
+use Rattle.std.proofs.Common.{◌≡◌, ℕ, ◌-◌, ◌≤◌, false, List, refl, sym, subst}
+use Rattle.std.specs.Prelude.{Bool, Option, None, Some, All}
+use Rattle.std.proofs.lemmas.List.Elements.{All-map}
 use Rattle.std.proofs.lemmas.Option.{none-some}
 use Rattle.kr_order.specs.declared.ids.ClientId.{ClientId}
 use Rattle.kr_order.specs.declared.ids.ServerId.{ServerId}
 use Rattle.kr_order.specs.declared.ids.EventId.{EventId}
 use Rattle.kr_order.specs.declared.history.Command.{Command}
 use Rattle.kr_order.specs.declared.message.Node as nodes
-use Rattle.kr_order.specs.declared.message.Node.TheVariants.{Manager, Client as AtClient, Server as AtServer}
+use Rattle.kr_order.specs.declared.message.Node.TheVariants.{Manager as AtManager, Client as AtClient, Server as AtServer}
 use Rattle.kr_order.specs.declared.message.Packet.{Packet}
 use Rattle.kr_order.proofs.PrefixLemmas.{IsPrefix-refl}
+use Rattle.kr_protocol.specs.Manager.{Manager, removes, views_of, named_by, view_packet, announces}
 use Rattle.kr_protocol.specs.Client.{Client}
 use Rattle.kr_protocol.specs.Server.{Server}
 use Rattle.script_lang.specs.declared.script.Event.{Event}
-use Rattle.script_lang.specs.declared.script.Event.TheVariants.{Call, Query, Retry, Deliver, Lose, Tick, Work, Show}
+use Rattle.script_lang.specs.declared.script.Event.TheVariants.{Call, Query, Retry, Deliver, Lose, Tick, Work, Stop, Notice, Show, Learn}
 use Rattle.script_lang.specs.Event.{IsEvent}
 use Rattle.kr_world.specs.declared.refusal.Refusal.{Refusal}
-use Rattle.kr_world.specs.World.{World, client_at, server_at, packet_at, marked}
-use Rattle.kr_world.specs.Step.{Outcome, call_refusal, query_refusal, client_calls, client_asks, arrives, delivers, loses, ticks, shows, act, refusal_of, unless, step}
+use Rattle.kr_world.specs.World.{World, client_at, server_at, packet_at, has_stopped, marked, with_packets}
+use Rattle.kr_world.specs.Step.{Outcome, call_refusal, query_refusal, deliver_refusal, tick_refusal, client_calls, client_asks, arrives, delivers, loses, manager_tells, ticks, stops, notices, shows, act, refusal_of, unless, step}
 use Rattle.kr_world.specs.Run.{Turn}
 use Rattle.kr_world.specs.Sound.{IsSound, IsSoundPacket}
 use Rattle.kr_world.specs.Facts.{IsTrueMessage, IsTruePacket, AreFacts}
-use Rattle.kr_world.proofs.StepLemmas.{at_index, idle_client, may_ask, no_call, no_query}
+use Rattle.kr_world.proofs.ListFacts.{all_of}
+use Rattle.kr_world.proofs.StepLemmas.{at_index, idle_client, may_ask, may_deliver, no_call, no_query}
 use Rattle.kr_world.proofs.BagLemmas.{delivered_sound}
-use Rattle.kr_world.proofs.FactLemmas.{marked_facts}
+use Rattle.kr_world.proofs.FactLemmas.{marked_facts, managed_facts, sent_facts}
 use Rattle.kr_world.proofs.KeepLemmas.{turn_of, GoesOn, Keeps, tells_nothing, facts_after, quiet_goes_on, goes_on_keeps, refused_keeps}
 use Rattle.kr_world.proofs.ClientLemmas.{IsPresent}
 use Rattle.kr_world.proofs.CallLemmas.{call_keeps}
 use Rattle.kr_world.proofs.AskLemmas.{query_goes_on}
 use Rattle.kr_world.proofs.RetryLemmas.{retry_goes_on}
-use Rattle.kr_world.proofs.HearLemmas.{hears_goes_on}
+use Rattle.kr_world.proofs.HearLemmas.{hears_goes_on, learns_goes_on}
 use Rattle.kr_world.proofs.ServerLemmas.{takes_goes_on, works_go_on, ticks_go_on}
 
 calls_keep : (past : List Turn) (world : World) (caller : ClientId) (command : Command) (found : Option Client)
@@ -42,10 +45,10 @@ calls_keep past world caller command (Some client) low is none facts =
 
 queries_go_on : (past : List Turn) (world : World) (caller : ClientId) (server : ServerId)
     (pairs : List (EventId × EventId))
-    → query_refusal world (client_at world caller) (server_at world server) ≡ None → AreFacts past world
+    → query_refusal world server (client_at world caller) (server_at world server) ≡ None → AreFacts past world
     → GoesOn past world (client_asks world caller server pairs (client_at world caller))
 queries_go_on past world caller server pairs none facts =
-    let may = may_ask world (client_at world caller) (server_at world server) none in
+    let may = may_ask world server (client_at world caller) (server_at world server) none in
     let client = may.client in
     let free = (idle_client world client may.may_call).idle in
     let here : IsPresent past world caller client = record { at = may.client_is; facts = facts } in
@@ -53,17 +56,17 @@ queries_go_on past world caller server pairs none facts =
 
 -- a packet is delivered to its addressee
 arrives_goes_on : (past : List Turn) (world : World) (k : ℕ) (to : nodes.Node) (packet : Packet) → packet.to ≡ to
-    → packet_at world k ≡ Some packet → IsSound world → AreFacts past world
+    → packet_at world k ≡ Some packet → has_stopped world to ≡ false → IsSound world → AreFacts past world
     → GoesOn past world (arrives world to packet)
-arrives_goes_on past world k Manager packet to at sound facts = quiet_goes_on past world world refl facts
-arrives_goes_on past world k (AtClient client) packet to at sound facts =
+arrives_goes_on past world k AtManager packet to at runs sound facts = quiet_goes_on past world world refl facts
+arrives_goes_on past world k (AtClient client) packet to at runs sound facts =
     let known = at_index (IsTruePacket past world.history) world.bag (k - 1) packet facts.packets at in
     let its = subst (λ node. IsTrueMessage past world.history packet.from node packet.message) to known in
     hears_goes_on past world client packet (client_at world client) refl its facts
-arrives_goes_on past world k (AtServer server) packet to at sound facts =
+arrives_goes_on past world k (AtServer server) packet to at runs sound facts =
     let known = at_index (IsTruePacket past world.history) world.bag (k - 1) packet facts.packets at in
-    let said = at_index (IsSoundPacket world.servers) world.bag (k - 1) packet sound.packets at in
-    takes_goes_on past world server packet (server_at world server) refl sound facts said known
+    let said = at_index (IsSoundPacket (views_of world.manager) world.servers) world.bag (k - 1) packet sound.packets at in
+    takes_goes_on past world server packet (server_at world server) refl runs sound facts said known
 
 -- what goes on from a world with other marks goes on from this one
 marked_goes_on : (past : List Turn) (world : World) (delivered : List Bool) (outcome : Outcome)
@@ -72,18 +75,31 @@ marked_goes_on past world delivered outcome on =
     record { taken = on.taken; facts = on.facts; tells = record { grows = on.tells.grows; told = on.tells.told; parts = on.tells.parts } }
 
 delivers_goes_on : (past : List Turn) (world : World) (k : ℕ) (found : Option Packet) → packet_at world k ≡ found
-    → IsSound world → AreFacts past world → GoesOn past world (delivers world k found)
-delivers_goes_on past world k None is sound facts = quiet_goes_on past world world refl facts
-delivers_goes_on past world k (Some packet) is sound facts =
+    → deliver_refusal world k found ≡ None → IsSound world → AreFacts past world → GoesOn past world (delivers world k found)
+delivers_goes_on past world k None is none sound facts = quiet_goes_on past world world refl facts
+delivers_goes_on past world k (Some packet) is none sound facts =
     let marks = marked world.delivered k in
     let now = record world { delivered = marks } in
     let outcome = arrives now packet.to packet in
-    marked_goes_on past world marks outcome (arrives_goes_on past now k packet.to packet refl is (delivered_sound world k sound) (marked_facts past world world.lost marks facts))
+    marked_goes_on past world marks outcome (arrives_goes_on past now k packet.to packet refl is (may_deliver world k packet none).runs (delivered_sound world k sound) (marked_facts past world world.lost marks facts))
 
-ticks_goes_on : (past : List Turn) (world : World) (who : Option ServerId) → IsSound world → AreFacts past world
+-- the manager is no matter to the facts, nor are views that it sends
+tells_goes_on : (past : List Turn) (world : World) (manager : Manager) → AreFacts past world
+    → GoesOn past world (manager_tells world manager)
+tells_goes_on past world manager facts =
+    let now = record world { manager = manager } in
+    let True = IsTruePacket past world.history in
+    let said : All True (announces manager.current) = All-map True (view_packet manager.current) (named_by manager.current) (all_of (λ id. True (view_packet manager.current id)) (λ id. tt) (named_by manager.current)) in
+    quiet_goes_on past world (with_packets now (announces manager.current)) refl (sent_facts past now (announces manager.current) said (managed_facts past world manager world.stopped facts))
+
+ticks_goes_on : (past : List Turn) (world : World) (who : Option ServerId) → tick_refusal world who ≡ None → IsSound world → AreFacts past world
     → GoesOn past world (ticks world who)
-ticks_goes_on past world None sound facts = quiet_goes_on past world world refl facts
-ticks_goes_on past world (Some server) sound facts = ticks_go_on past world server (server_at world server) refl sound facts
+ticks_goes_on past world None none sound facts = tells_goes_on past world world.manager facts
+ticks_goes_on past world (Some server) none sound facts = ticks_go_on past world server (server_at world server) refl none sound facts
+
+notices_goes_on : (past : List Turn) (world : World) (found : Option Server) → AreFacts past world → GoesOn past world (notices world found)
+notices_goes_on past world None facts = quiet_goes_on past world world refl facts
+notices_goes_on past world (Some server) facts = tells_goes_on past world (removes world.manager server.id) facts
 
 -- what is shown changes nothing
 shows_goes_on : (past : List Turn) (world : World) (id : ServerId) (found : Option Server) → AreFacts past world
@@ -104,13 +120,19 @@ act_keeps past world (Query client server pairs) none fit sound facts =
 act_keeps past world (Retry client server) none fit sound facts =
     goes_on_keeps past world (Retry client server) _ (λ caller. refl) (retry_goes_on past world client server (client_at world client) refl facts)
 act_keeps past world (Deliver k) none fit sound facts =
-    goes_on_keeps past world (Deliver k) _ (λ caller. refl) (delivers_goes_on past world k (packet_at world k) refl sound facts)
+    goes_on_keeps past world (Deliver k) _ (λ caller. refl) (delivers_goes_on past world k (packet_at world k) refl none sound facts)
 act_keeps past world (Lose k) none fit sound facts =
     goes_on_keeps past world (Lose k) (loses world k) (λ caller. refl) (quiet_goes_on past world _ refl (marked_facts past world (marked world.lost k) world.delivered facts))
 act_keeps past world (Tick who) none fit sound facts =
-    goes_on_keeps past world (Tick who) _ (λ caller. refl) (ticks_goes_on past world who sound facts)
+    goes_on_keeps past world (Tick who) _ (λ caller. refl) (ticks_goes_on past world who none sound facts)
 act_keeps past world (Work server workers) none fit sound facts =
-    goes_on_keeps past world (Work server workers) _ (λ caller. refl) (works_go_on past world server (server_at world server) refl sound facts)
+    goes_on_keeps past world (Work server workers) _ (λ caller. refl) (works_go_on past world server (server_at world server) refl none sound facts)
+act_keeps past world (Stop server) none fit sound facts =
+    goes_on_keeps past world (Stop server) (stops world server) (λ caller. refl) (quiet_goes_on past world _ refl (managed_facts past world world.manager (marked world.stopped server.0) facts))
+act_keeps past world (Notice server) none fit sound facts =
+    goes_on_keeps past world (Notice server) _ (λ caller. refl) (notices_goes_on past world (server_at world server) facts)
+act_keeps past world (Learn client) none fit sound facts =
+    goes_on_keeps past world (Learn client) _ (λ caller. refl) (learns_goes_on past world client (client_at world client) refl facts)
 act_keeps past world (Show server) none fit sound facts =
     goes_on_keeps past world (Show server) _ (λ caller. refl) (shows_goes_on past world server (server_at world server) facts)
 

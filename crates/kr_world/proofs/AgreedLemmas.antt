@@ -1,20 +1,18 @@
 -- How many entries are acknowledged after a reaction, in a sound world: only the tail acknowledges what is not history yet.
-use Rattle.std.proofs.Common.{◌≡◌, ℕ, ◌+◌, ◌-◌, ◌≤◌, true, false, List, ◌++◌, length, take, refl, sym, ap, ◌∙◌, subst, arith}
-use Rattle.std.specs.Prelude.{Option, Some, slice_get}
+use Rattle.std.proofs.Common.{◌≡◌, ℕ, ◌-◌, ◌≤◌, true, false, List, ◌++◌, length, take, refl, sym, ap, ◌∙◌, subst, arith}
+use Rattle.std.specs.Prelude.{Option, Some}
 use Rattle.std.proofs.lemmas.Bool.{false≢true}
 use Rattle.std.proofs.lemmas.List.{append-nil, length-append, take-append-le, take-take}
 use Rattle.kr_order.specs.declared.ids.ServerId.{ServerId}
 use Rattle.kr_order.specs.declared.history.Entry.{Entry}
 use Rattle.kr_order.specs.declared.message.Packet.{Packet}
 use Rattle.kr_order.specs.Prefix.{IsPrefix}
-use Rattle.kr_order.specs.View.{first_view, next_of, prev_of}
 use Rattle.kr_order.proofs.PrefixLemmas.{IsPrefix-trans, IsPrefix-take}
 use Rattle.kr_protocol.specs.Server.{Server, acknowledged, is_at_tail, is_server, next}
-use Rattle.kr_world.specs.World.{World}
+use Rattle.kr_world.specs.World.{World, is_stopped}
 use Rattle.kr_world.specs.Sound.{HasSoMany}
-use Rattle.kr_world.proofs.ViewLemmas.{server_id, next_number, prev_in_first_view}
-use Rattle.kr_world.proofs.ChainLemmas.{logs_rise}
-use Rattle.kr_world.proofs.SeatLemmas.{IsSeated, own_of, seat_id, seat_within, next_is, sender_is, some_server, next_not_tail}
+use Rattle.kr_world.proofs.ChainLemmas.{chain_of, follower_below}
+use Rattle.kr_world.proofs.SeatLemmas.{IsSeated, own_of, sender_is, some_server, next_not_tail}
 use Rattle.kr_world.proofs.ShapeLemmas.{Acknowledges, done_stays, done_before, done_all, done_told}
 use Rattle.kr_world.proofs.BelowLemmas.{IsSoundCame}
 
@@ -27,19 +25,12 @@ agreed_next :
     → upto ≤ done
     → IsPrefix (take upto server.log) world.history
 agreed_next world id server from done len upto seat said taken le =
-    let n = length world.servers in
-    let i = id.0 - 1 in
     let sender = said.sender in
-    let sits : IsSeated world from sender = record { at = said.there; sound = seat.sound } in
-    let its = own_of world from sender sits in
-    let named : server.id ≡ server_id (i + 1) = seat_id world id server seat in
-    let after_it =
-    next_number n i from (seat_within world id server seat) (sym (next_is world id server seat ∙ ap (next_of (first_view n)) named) ∙ some_server (next server) from taken) in
-    let sender_named : sender.id ≡ server_id (i + 2) = sender_is world from sender sits said.from_low ∙ ap server_id after_it.1 in
-    let follows : prev_of (first_view n) sender.id ≡ Some server.id =
-    ap (prev_of (first_view n)) sender_named ∙ prev_in_first_view n i after_it.0 ∙ ap (λ d. Some d) (sym named) in
+    let its = seat.sound.servers (from.0 - 1) sender said.there in
+    let follows : next server ≡ Some sender.id =
+    some_server (next server) from taken ∙ ap (λ s. Some s) (sym (sender_is world from sender seat.sound said.there said.from_low)) in
     let front : IsPrefix sender.log server.log =
-    logs_rise world seat.sound 0 (from.0 - 1) i (first_view n) sender server (ap (λ views. slice_get views 0) seat.sound.views) said.there seat.at follows in
+    follower_below (is_stopped world) world.manager world.servers (chain_of world seat.sound) (id.0 - 1) (from.0 - 1) server sender seat.at said.there seat.runs follows in
     let so_far = said.done_so_far in
     let its_done = its.done in
     let same : take upto server.log ≡ take upto sender.log =
@@ -58,7 +49,7 @@ pub record IsAgreed (world : World) (old : Server) (log : List Entry) (done : �
 pub agreed_so :
     (world : World) (id : ServerId) (old : Server) (came : Option Packet) (more : List Entry) (done : ℕ)
     → IsSeated world id old
-    → IsSoundCame world.servers came
+    → IsSoundCame world came
     → Acknowledges old came more done
     → IsAgreed world old (old.log ++ more) done
 agreed_so world id old came more done seat said (done_stays any) =

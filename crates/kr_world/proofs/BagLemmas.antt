@@ -8,41 +8,47 @@ use Rattle.kr_order.specs.declared.history.Entry.{Entry}
 use Rattle.kr_order.specs.declared.message.Packet.{Packet}
 use Rattle.kr_order.specs.Prefix.{IsPrefix}
 use Rattle.kr_order.proofs.PrefixLemmas.{IsPrefix-refl, IsPrefix-trans}
+use Rattle.kr_protocol.specs.Manager.{views_of}
 use Rattle.kr_protocol.specs.Server.{Server, acknowledged}
 use Rattle.kr_protocol.specs.Client.{Client}
 use Rattle.kr_world.specs.World.{World, marked, with_packets}
 use Rattle.kr_world.specs.Sound.{IsSound, IsSoundServer, IsSoundPacket, IsBelowPredecessor, most_packets}
 
-pub lost_sound : (world : World) (k : ℕ) → IsSound world → IsSound (record world { lost = marked world.lost k })
-lost_sound world k sound =
+-- with other clients, of no more calls than packets, and other marks beside the packets
+same_sound :
+    (world : World) (clients : List Client) (lost delivered : List Bool)
+    → All (λ c. c.seq ≤ length world.bag) clients
+    → length lost ≡ length world.bag
+    → length delivered ≡ length world.bag
+    → IsSound world
+    → IsSound (record world { clients = clients; lost = lost; delivered = delivered })
+same_sound world clients lost delivered calls losses deliveries sound =
     record {
-      views = sound.views;
-      some = sound.some;
+      evolves = sound.evolves;
+      made = sound.made;
+      few = sound.few;
+      served = sound.served;
       servers = sound.servers;
       last_holds = sound.last_holds;
+      old_tails = sound.old_tails;
       packets = sound.packets;
-      calls = sound.calls;
+      calls = calls;
       bag = sound.bag;
-      lost = length-set world.lost (k - 1) true ∙ sound.lost;
-      delivered = sound.delivered;
+      stopped = sound.stopped;
+      lost = losses;
+      delivered = deliveries;
     }
+
+pub lost_sound : (world : World) (k : ℕ) → IsSound world → IsSound (record world { lost = marked world.lost k })
+lost_sound world k sound =
+    same_sound world world.clients (marked world.lost k) world.delivered sound.calls (length-set world.lost (k - 1) true ∙ sound.lost) sound.delivered sound
 
 pub delivered_sound :
     (world : World) (k : ℕ)
     → IsSound world
     → IsSound (record world { delivered = marked world.delivered k })
 delivered_sound world k sound =
-    record {
-      views = sound.views;
-      some = sound.some;
-      servers = sound.servers;
-      last_holds = sound.last_holds;
-      packets = sound.packets;
-      calls = sound.calls;
-      bag = sound.bag;
-      lost = sound.lost;
-      delivered = length-set world.delivered (k - 1) true ∙ sound.delivered;
-    }
+    same_sound world world.clients world.lost (marked world.delivered k) sound.calls sound.lost (length-set world.delivered (k - 1) true ∙ sound.delivered) sound
 
 -- as many marks come as packets
 pub marks_more :
@@ -68,7 +74,7 @@ pub other_later :
     → length world.bag ≤ packets
     → IsPrefix world.history history
     → IsBelowPredecessor servers server
-    → IsSoundServer world.views servers history packets i server
+    → IsSoundServer (views_of world.manager) servers history packets i server
 other_later world servers history packets i server sound there le front below =
     let own = sound.servers i server there in
     let entries = own.entries in
@@ -86,7 +92,7 @@ other_later world servers history packets i server sound there le front below =
 
 pub packets_sound :
     (world : World) (packets : List Packet)
-    → All (IsSoundPacket world.servers) packets
+    → All (IsSoundPacket (views_of world.manager) world.servers) packets
     → length world.bag + length packets ≤ most_packets
     → IsSound world
     → IsSound (with_packets world packets)
@@ -95,13 +101,17 @@ packets_sound world packets said room sound =
     let longer : length bag ≡ length world.bag + length packets = length-append world.bag packets in
     let under : length world.bag ≤ length bag = omega arith in
     record {
-      views = sound.views;
-      some = sound.some;
+      evolves = sound.evolves;
+      made = sound.made;
+      few = sound.few;
+      served = sound.served;
       servers = λ i server there. other_later world world.servers world.history (length bag) i server sound there under (IsPrefix-refl world.history) (sound.servers i server there).below;
       last_holds = sound.last_holds;
-      packets = All-append (IsSoundPacket world.servers) world.bag packets sound.packets said;
+      old_tails = sound.old_tails;
+      packets = All-append (IsSoundPacket (views_of world.manager) world.servers) world.bag packets sound.packets said;
       calls = calls_under world.clients (length world.bag) (length bag) under sound.calls;
       bag = omega arith;
+      stopped = sound.stopped;
       lost = marks_more world.lost world.bag packets sound.lost;
       delivered = marks_more world.delivered world.bag packets sound.delivered;
     }
@@ -113,14 +123,5 @@ pub client_sound :
     → IsSound world
     → IsSound (record world { clients = slice_set world.clients (id.0 - 1) after })
 client_sound world id after seq sound =
-    record {
-      views = sound.views;
-      some = sound.some;
-      servers = sound.servers;
-      last_holds = sound.last_holds;
-      packets = sound.packets;
-      calls = All-set (λ c. c.seq ≤ length world.bag) world.clients (id.0 - 1) after seq sound.calls;
-      bag = sound.bag;
-      lost = sound.lost;
-      delivered = sound.delivered;
-    }
+    let clients = slice_set world.clients (id.0 - 1) after in
+    same_sound world clients world.lost world.delivered (All-set (λ c. c.seq ≤ length world.bag) world.clients (id.0 - 1) after seq sound.calls) sound.lost sound.delivered sound

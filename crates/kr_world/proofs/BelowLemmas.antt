@@ -11,6 +11,7 @@ use Rattle.kr_order.specs.declared.view.View.{View}
 use Rattle.kr_order.specs.Prefix.{IsPrefix}
 use Rattle.kr_order.specs.History.{highest_seq}
 use Rattle.kr_order.specs.View.{in_chain, prev_of, is_head}
+use Rattle.kr_protocol.specs.Manager.{views_of}
 use Rattle.kr_protocol.specs.Server.{Server, most_entries, viewed, is_first, is_server, prev, missing}
 use Rattle.kr_world.specs.World.{World}
 use Rattle.kr_world.specs.Sound.{AreInLog, IsSoundPacket}
@@ -19,9 +20,9 @@ use Rattle.kr_world.proofs.SeatLemmas.{IsSeated, own_of, sender_is, one_before, 
 use Rattle.kr_world.proofs.ShapeLemmas.{Gains, gains_none, gains_command, gains_entries, IsCounted}
 
 -- what came is true
-abbrev pub IsSoundCame : List Server → Option Packet → Type 0
-IsSoundCame servers None = Unit {0}
-IsSoundCame servers (Some packet) = IsSoundPacket servers packet
+abbrev pub IsSoundCame : World → Option Packet → Type 0
+IsSoundCame world None = Unit {0}
+IsSoundCame world (Some packet) = IsSoundPacket (views_of world.manager) world.servers packet
 
 pub counted_of : (world : World) (id : ServerId) (server : Server) → IsSeated world id server → IsCounted server
 counted_of world id server seat = let own = own_of world id server seat in record { done = own.done; fed = own.fed }
@@ -47,9 +48,8 @@ pub append_below :
     → IsPrefix (server.log ++ missing server.log first entries) said.sender.log
 append_below world id server from first entries seat said is =
     let sender = said.sender in
-    let sits : IsSeated world from sender = record { at = said.there; sound = seat.sound } in
     let named : prev server ≡ Some sender.id =
-    some_server (prev server) from is ∙ ap (λ s. Some s) (sym (sender_is world from sender sits said.from_low)) in
+    some_server (prev server) from is ∙ ap (λ s. Some s) (sym (sender_is world from sender seat.sound said.there said.from_low)) in
     let below = (own_of world id server seat).below (from.0 - 1) sender said.there named in
     receives server.log sender.log entries first below said.first_low said.stand
 
@@ -57,7 +57,7 @@ append_below world id server from first entries seat said is =
 pub gained_below :
     (world : World) (id : ServerId) (server : Server) (came : Option Packet) (more : List Entry)
     → IsSeated world id server
-    → IsSoundCame world.servers came
+    → IsSoundCame world came
     → Gains server came more
     → (j : ℕ) (before : Server)
     → slice_get world.servers j ≡ Some before
@@ -69,17 +69,16 @@ gained_below world id server came more seat said (gains_command client to seq co
     let first = (and_parts (is_first server) (ltb (highest_seq client server.log) seq) may).0 in
     absurd (none-some before.id (sym (head_first server.view server.id first) ∙ is))
 gained_below world id server came more seat said (gains_entries from to first entries taken) j before there is =
-    let sits : IsSeated world from said.sender = record { at = said.there; sound = seat.sound } in
-    let same = one_before world server from said.sender sits said.from_low (some_server (prev server) from taken) j before there is in
+    let same = one_before world server from said.sender seat.sound said.there said.from_low (some_server (prev server) from taken) j before there is in
     subst (λ (s : Server). IsPrefix (server.log ++ missing server.log first entries) s.log) same (append_below world id server from first entries seat said taken)
 
 -- no more entries come than a packet has
 pub gained_few :
-    (servers : List Server) (server : Server) (came : Option Packet) (more : List Entry)
-    → IsSoundCame servers came
+    (world : World) (server : Server) (came : Option Packet) (more : List Entry)
+    → IsSoundCame world came
     → Gains server came more
     → length more ≤ most_entries
-gained_few servers server came more said (gains_none any) = omega arith
-gained_few servers server came more said (gains_command client to seq command may) = omega arith
-gained_few servers server came more said (gains_entries from to first entries taken) =
+gained_few world server came more said (gains_none any) = omega arith
+gained_few world server came more said (gains_command client to seq command may) = omega arith
+gained_few world server came more said (gains_entries from to first entries taken) =
     let few = said.few in omega (arith, missing_few server.log entries first)

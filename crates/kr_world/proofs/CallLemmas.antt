@@ -15,7 +15,7 @@ use Rattle.kr_world.specs.Step.{client_sends}
 use Rattle.kr_world.specs.Run.{Turn}
 use Rattle.kr_world.specs.Lawful.{begun_by, entries_of}
 use Rattle.kr_world.specs.Facts.{HasBegun, IsTruePacket, IsTrueClient, AreFacts}
-use Rattle.kr_world.proofs.ListFacts.{slice_get_at}
+use Rattle.kr_protocol.proofs.ListLemmas.{slice_get_at}
 use Rattle.kr_world.proofs.PastLemmas.{begun_by-push, begun_same, others_begin, caller_begins}
 use Rattle.kr_world.proofs.PacketLemmas.{same_client}
 use Rattle.kr_world.proofs.FactLemmas.{one_facts, sent_facts}

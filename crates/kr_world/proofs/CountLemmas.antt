@@ -17,14 +17,14 @@ use Rattle.kr_order.specs.declared.message.Message.TheVariants.{Replied, Answere
 use Rattle.kr_order.specs.declared.message.Packet.{Packet}
 use Rattle.kr_order.specs.declared.view.View.{View}
 use Rattle.kr_protocol.specs.Server.{Server}
-use Rattle.kr_protocol.specs.Client.{Client, new_client, unheard, closes, after_reply, may_answer_all, answered, after_answers, answers_from, turns_to, after_refer, message_to, client_takes, begins, asks}
+use Rattle.kr_protocol.specs.Client.{Client, new_client, unheard, closes, after_reply, may_answer_all, answered, after_answers, answers_from, turns_to, after_refer, message_to, client_takes, begins, asks, learns}
 use Rattle.script_lang.specs.declared.script.Event.{Event}
-use Rattle.script_lang.specs.declared.script.Event.TheVariants.{Call, Query, Retry, Deliver, Lose, Tick, Work, Show}
+use Rattle.script_lang.specs.declared.script.Event.TheVariants.{Call, Query, Retry, Deliver, Lose, Tick, Work, Stop, Notice, Show, Learn}
 use Rattle.kr_world.specs.declared.refusal.Refusal.{Refusal}
 use Rattle.kr_order.specs.View.{first_view}
 use Rattle.kr_order.specs.Numbers.{numbers_to}
 use Rattle.kr_world.specs.World.{World, first_world, client_at, server_at, packet_at, marked}
-use Rattle.kr_world.specs.Step.{Outcome, refusal_of, client_calls, client_asks, client_retries, arrives_at_client, arrives_at_server, arrives, delivers, works, ticks, ticks_at, shows, act, unless}
+use Rattle.kr_world.specs.Step.{Outcome, refusal_of, client_calls, client_asks, client_retries, arrives_at_client, arrives_at_server, arrives, delivers, works, ticks, ticks_at, shows, act, unless, notices, learns_view}
 use Rattle.kr_world.specs.Sound.{HaveBegun, QueriesAreCounted}
 use Rattle.kr_world.proofs.ListFacts.{all_of}
 use Rattle.kr_world.proofs.StepLemmas.{at_index}
@@ -141,6 +141,16 @@ shows_count : (n : ℕ) (world : World) (id : ServerId) (found : Option Server) 
 shows_count n world id None known = count_on n world.clients known
 shows_count n world id (Some server) known = count_on n world.clients known
 
+notices_count : (n : ℕ) (world : World) (found : Option Server) → HaveBegun n world.clients → CountsOn n (notices world found)
+notices_count n world None known = count_on n world.clients known
+notices_count n world (Some server) known = count_on n world.clients known
+
+learns_count : (n : ℕ) (world : World) (id : ClientId) (found : Option Client) → client_at world id ≡ found → HaveBegun n world.clients → CountsOn n (learns_view world id found)
+learns_count n world id None is known = count_on n world.clients known
+learns_count n world id (Some client) is known =
+    let le = own_count n world id client is known in
+    one_counts n world.clients (id.0 - 1) (learns client world.manager.current) (omega arith) known
+
 act_count : (n : ℕ) (world : World) (event : Event) → HaveBegun n world.clients → CountsOn n (act world event)
 act_count n world (Call client command) known = calls_count n world client command (client_at world client) refl known
 act_count n world (Query client server pairs) known = asks_count n world client server pairs (client_at world client) refl known
@@ -149,7 +159,10 @@ act_count n world (Deliver k) known = delivers_count n world k (packet_at world 
 act_count n world (Lose k) known = count_on n world.clients known
 act_count n world (Tick who) known = turn_count n world who known
 act_count n world (Work server workers) known = works_count n world server (server_at world server) known
+act_count n world (Stop server) known = count_on n world.clients known
+act_count n world (Notice server) known = notices_count n world (server_at world server) known
 act_count n world (Show server) known = shows_count n world server (server_at world server) known
+act_count n world (Learn client) known = learns_count n world client (client_at world client) refl known
 
 pub queries_counted : QueriesAreCounted
 queries_counted n world event known = by_refusal (refusal_of world event)

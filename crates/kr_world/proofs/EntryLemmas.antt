@@ -12,7 +12,7 @@ use Rattle.kr_order.specs.Prefix.{IsPrefix}
 use Rattle.kr_order.proofs.PrefixLemmas.{IsPrefix-take}
 use Rattle.kr_order.specs.History.{highest_seq}
 use Rattle.kr_world.specs.Lawful.{entries_of, IsNumbered}
-use Rattle.kr_world.proofs.ListFacts.{slice_get_left, slice_get_front, slice_get_at}
+use Rattle.kr_protocol.proofs.ListLemmas.{slice_get_left, slice_get_front, slice_get_at}
 
 pub entries_of-append : (caller : ClientId) (xs ys : List Entry)
     → entries_of caller (xs ++ ys) ≡ entries_of caller xs ++ entries_of caller ys

@@ -9,6 +9,7 @@ use Rattle.kr_order.specs.declared.message.Packet.{Packet}
 use Rattle.kr_order.specs.Prefix.{IsPrefix}
 use Rattle.kr_order.specs.Answer.{answer_to}
 use Rattle.kr_order.proofs.PrefixLemmas.{IsPrefix-refl}
+use Rattle.kr_protocol.specs.Manager.{Manager}
 use Rattle.kr_protocol.specs.Server.{Server}
 use Rattle.kr_protocol.specs.Cache.{CacheItem}
 use Rattle.kr_protocol.specs.Client.{Client}
@@ -105,6 +106,12 @@ one_facts past turn world i after same one_open apart known facts =
 pub marked_facts : (past : List Turn) (world : World) (lost delivered : List Bool) → AreFacts past world
     → AreFacts past (record world { lost = lost; delivered = delivered })
 marked_facts past world lost delivered facts =
+    record { packets = facts.packets; in_step = facts.in_step; clients = facts.clients; servers = facts.servers }
+
+-- nor is the manager, or which servers have stopped
+pub managed_facts : (past : List Turn) (world : World) (manager : Manager) (stopped : List Bool) → AreFacts past world
+    → AreFacts past (record world { manager = manager; stopped = stopped })
+managed_facts past world manager stopped facts =
     record { packets = facts.packets; in_step = facts.in_step; clients = facts.clients; servers = facts.servers }
 
 -- packets that are true go into the bag

@@ -1,5 +1,5 @@
 -- A server's log stays lawful with what it gains, and the queries that wait at it were asked.
-use Rattle.std.proofs.Common.{◌≡◌, ◌+◌, ◌-◌, ◌<◌, ◌≤◌, ltb, List, [], ◌∷◌, ◌++◌, length, refl, sym, subst, arith, inl, inr}
+use Rattle.std.proofs.Common.{◌≡◌, ◌+◌, ◌-◌, ◌<◌, ◌≤◌, true, ltb, List, [], ◌∷◌, ◌++◌, length, refl, sym, subst, arith, inl, inr}
 use Rattle.std.specs.Prelude.{Option, None, Some, slice_get, All}
 use Rattle.std.proofs.lemmas.Bool.{cases_eq, and_parts, ltb-true}
 use Rattle.std.proofs.lemmas.List.{append-nil}
@@ -12,14 +12,14 @@ use Rattle.kr_order.specs.declared.message.Packet.{Packet}
 use Rattle.kr_order.specs.History.{highest_seq}
 use Rattle.kr_order.specs.Prefix.{IsPrefix}
 use Rattle.kr_order.proofs.PrefixLemmas.{take_front}
-use Rattle.kr_protocol.specs.Server.{Server, is_first, missing}
+use Rattle.kr_protocol.specs.Server.{Server, is_member, is_first, missing}
 use Rattle.kr_world.specs.World.{World}
 use Rattle.kr_world.specs.Run.{Turn}
 use Rattle.kr_world.specs.Sound.{AreInLog}
 use Rattle.kr_world.specs.Lawful.{IsNumbered, begun_by, entries_of}
 use Rattle.kr_world.specs.Facts.{HasBegun, IsTrueQuery, IsLawfulLog, IsTrueServer, IsTruePacket}
 use Rattle.kr_world.proofs.StepLemmas.{at_index}
-use Rattle.kr_world.proofs.SeatLemmas.{seat_holds}
+use Rattle.kr_world.proofs.SeatLemmas.{seat_holds, first_member}
 use Rattle.kr_world.proofs.ShapeLemmas.{Gains, gains_none, gains_command, gains_entries, Waits, waits_on, waits_more, waits_none}
 use Rattle.kr_world.proofs.BelowLemmas.{IsSoundCame, append_below}
 use Rattle.kr_world.proofs.EntryLemmas.{IsInOrder, entries_of-own, entries_of-other, numbered_push, numbered_front, entries_front, count_within}
@@ -66,12 +66,12 @@ front_lawful past log longer front known =
 
 -- a command that its client began, and that is past all of the client's in the log
 entered_lawful : (past : List Turn) (world : World) (id : ServerId) (server : Server) (entry : Entry)
-    → IsMoment past world id server → HasBegun past entry.client entry.seq entry.command
+    → IsMoment past world id server → is_member server ≡ true → HasBegun past entry.client entry.seq entry.command
     → highest_seq entry.client server.log < entry.seq → IsLawfulLog past (server.log ++ entry ∷ [])
-entered_lawful past world id server entry moment known newer =
+entered_lawful past world id server entry moment member known newer =
     let own = own_true past world id server moment in
     let open_before = moment.facts.in_step.one_open entry.client in
-    let more = entries_front entry.client world.history server.log (seat_holds world id server moment.seat) in
+    let more = entries_front entry.client world.history server.log (seat_holds world id server moment.seat member) in
     let fewer = count_within (begun_by entry.client past) entry.client server.log (own.log.numbered entry.client) in
     pushed_lawful past server.log entry own.log known.caller_low (next_in_order past server.log entry (omega arith) known (omega arith))
 
@@ -82,14 +82,14 @@ IsTrueCame past history (Some packet) = IsTruePacket past history packet
 
 -- whatever entries come to the end of the log
 pub gains_lawful : (past : List Turn) (world : World) (id : ServerId) (server : Server) (came : Option Packet)
-    (more : List Entry) → IsMoment past world id server → IsSoundCame world.servers came
+    (more : List Entry) → IsMoment past world id server → IsSoundCame world came
     → IsTrueCame past world.history came → Gains server came more → IsLawfulLog past (server.log ++ more)
 gains_lawful past world id server came more moment sound known (gains_none none) =
     subst (IsLawfulLog past) (sym (append-nil server.log)) (own_true past world id server moment).log
 gains_lawful past world id server came more moment sound known (gains_command client to seq command may) =
     let entry : Entry = record { client = client; seq = seq; command = command } in
-    let newer = ltb-true (highest_seq client server.log) seq (and_parts (is_first server) (ltb (highest_seq client server.log) seq) may).1 in
-    entered_lawful past world id server entry moment known newer
+    let tests = and_parts (is_first server) (ltb (highest_seq client server.log) seq) may in
+    entered_lawful past world id server entry moment (first_member server tests.0) known (ltb-true (highest_seq client server.log) seq tests.1)
 gains_lawful past world id server came more moment sound known (gains_entries from to first entries is) =
     let said : AreInLog world.servers from first entries = sound in
     let its = at_index (IsTrueServer past world.history) world.servers (from.0 - 1) said.sender moment.facts.servers said.there in

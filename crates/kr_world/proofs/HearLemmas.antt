@@ -17,9 +17,9 @@ use Rattle.kr_order.specs.declared.message.Message.{Message}
 use Rattle.kr_order.specs.declared.message.Message.TheVariants.{Replied, Answered, Refer}
 use Rattle.kr_order.specs.declared.message.Packet.{Packet}
 use Rattle.kr_order.specs.declared.view.View.{View}
-use Rattle.kr_protocol.specs.Client.{Client, last, unheard, closes, after_reply, may_answer_all, answered, after_answers, answers_from, turns_to, after_refer, message_to}
+use Rattle.kr_protocol.specs.Client.{Client, last, unheard, closes, after_reply, may_answer_all, answered, after_answers, answers_from, turns_to, after_refer, message_to, learns}
 use Rattle.kr_world.specs.World.{World, client_at}
-use Rattle.kr_world.specs.Step.{client_hears, arrives_at_client}
+use Rattle.kr_world.specs.Step.{client_hears, arrives_at_client, learns_view}
 use Rattle.kr_world.specs.Run.{Turn}
 use Rattle.kr_world.specs.Facts.{StandsAt, AreAnswers, IsTrueMessage, IsTrueClient, AreFacts}
 use Rattle.kr_world.proofs.PastLemmas.{IsApart, begun_same}
@@ -27,7 +27,7 @@ use Rattle.kr_world.proofs.PacketLemmas.{begun_later}
 use Rattle.kr_world.proofs.QueryLemmas.{stays, queries_move}
 use Rattle.kr_world.proofs.KeepLemmas.{IsNewReply, IsNewPart, GoesOn, quiet_goes_on}
 use Rattle.kr_world.proofs.ClientLemmas.{IsPresent, its_facts}
-use Rattle.kr_world.proofs.HeardLemmas.{says_again, heard_goes_on, unheard_goes_on}
+use Rattle.kr_world.proofs.HeardLemmas.{says_again, heard_goes_on, unheard_goes_on, says_nothing}
 use Rattle.kr_world.proofs.ClosesLemmas.{closes_goes_on}
 use Rattle.kr_world.proofs.AnsweredLemmas.{answered_goes_on, answers_open}
 
@@ -69,12 +69,10 @@ from_goes_on past world (AtServer server) id client q part told here said =
     answers_go_on past world id client client.asking (teller.Server server) q part told refl here said
 
 -- a view is no matter to what a client knows of the history
-turned_true : (past : List Turn) (turn : Turn) (history : List Entry) (i : ℕ) (client : Client) (view : View)
-    → IsApart turn client.id → client_at turn.outcome.after client.id ≡ Some (turns_to client view).after
-    → IsTrueClient past history i client → IsTrueClient (past ++ turn ∷ []) history i (turns_to client view).after
-turned_true past turn history i client view apart at known =
-    let after = (turns_to client view).after in
-    let id = known.id in
+learnt_true : (past : List Turn) (turn : Turn) (history : List Entry) (i : ℕ) (client : Client) (view : View)
+    → IsApart turn client.id → client_at turn.outcome.after client.id ≡ Some (learns client view)
+    → IsTrueClient past history i client → IsTrueClient (past ++ turn ∷ []) history i (learns client view)
+learnt_true past turn history i client view apart at known =
     record {
       id = known.id;
       seq = known.seq ∙ sym (ap length (begun_same client.id past turn apart));
@@ -82,9 +80,23 @@ turned_true past turn history i client view apart at known =
       idle = known.idle;
       within = known.within;
       old = known.old;
-      queries = queries_move past turn client after refl (omega arith) (stays refl refl refl refl) at known.queries.alone known.queries;
+      queries = queries_move past turn client (learns client view) refl (omega arith) (stays refl refl refl refl) at known.queries.alone known.queries;
       cache = known.cache;
     }
+
+pub learns_goes_on : (past : List Turn) (world : World) (id : ClientId) (found : Option Client) → client_at world id ≡ found
+    → AreFacts past world → GoesOn past world (learns_view world id found)
+learns_goes_on past world id None is facts = quiet_goes_on past world world refl facts
+learns_goes_on past world id (Some client) is facts =
+    let here : IsPresent past world id client = record { at = is; facts = facts } in
+    let view = world.manager.current in
+    heard_goes_on past world id client (unheard (learns client view)) here (record {
+      same = refl;
+      known = λ turn apart at. learnt_true past turn world.history (id.0 - 1) client view apart at (its_facts past world id client here);
+      says = says_nothing;
+      told = All-nil (IsNewReply world world.history);
+      parts = All-nil (IsNewPart world world.history);
+    })
 
 refer_goes_on : (past : List Turn) (world : World) (id : ClientId) (client : Client)
     (asking : Option (List (EventId × EventId))) (q part : ℕ) (view : View) → IsPresent past world id client
@@ -96,7 +108,7 @@ refer_goes_on past world id client (Some pairs) q part view here = by_test (eqb 
     by_test true =
         heard_goes_on past world id client (turns_to client view) here (record {
           same = refl;
-          known = λ turn apart at. turned_true past turn world.history (id.0 - 1) client view apart at (its_facts past world id client here);
+          known = λ turn apart at. learnt_true past turn world.history (id.0 - 1) client view apart at (its_facts past world id client here);
           says = says_again (last (turns_to client view).after);
           told = All-nil (IsNewReply world world.history);
           parts = All-nil (IsNewPart world world.history);

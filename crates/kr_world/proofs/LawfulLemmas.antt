@@ -94,9 +94,10 @@ run_grows past world (event ∷ events) may (suc i) (suc j) earlier later le is 
 -- the run of a script may go on from its first world
 may_begin : (script : Script) → IsScript script → MayGoOn [] (first_world script.servers script.clients) script.events
 may_begin script fit =
+    let most = fit.size.servers_fit.high in
     record {
       each = fit.each;
-      sound = worlds_sound.first script.servers script.clients fit.size.servers_fit.low;
+      sound = worlds_sound.first script.servers script.clients fit.size.servers_fit.low (omega arith);
       facts = first_facts script.servers script.clients;
     }
 

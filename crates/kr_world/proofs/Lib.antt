@@ -1,5 +1,6 @@
 pub mod AcknowledgeLemmas
 pub mod ActLemmas
+pub mod AdoptLemmas
 pub mod AgreedLemmas
 pub mod AnsweredLemmas
 pub mod AppendLemmas
@@ -26,6 +27,7 @@ pub mod HeardLemmas
 pub mod KeepLemmas
 pub mod LawfulLemmas
 pub mod ListFacts
+pub mod ManagerLemmas
 pub mod LongestLemmas
 pub mod QueryLemmas
 pub mod RememberLemmas

@@ -23,7 +23,7 @@ use Rattle.kr_protocol.specs.Server.{Server, told_by}
 use Rattle.kr_world.specs.Run.{Turn}
 use Rattle.kr_world.specs.Lawful.{IsNumbered, IsToldTruly, begun_by, entries_of}
 use Rattle.kr_world.specs.Facts.{HasBegun, IsAsked, AreAnswers, StandsAt, IsTrueRequest, IsTrueReply, IsTrueAsk, IsTrueAnswer, IsTrueMessage, IsTruePacket, IsTrueQuery, IsLawfulLog, IsTrueServer}
-use Rattle.kr_world.proofs.ListFacts.{slice_get_left, slice_get_at}
+use Rattle.kr_protocol.proofs.ListLemmas.{slice_get_left, slice_get_at}
 use Rattle.kr_world.proofs.PastLemmas.{begun_by-append}
 use Rattle.kr_world.proofs.QueryLemmas.{asked_later}
 use Rattle.kr_world.proofs.EntryLemmas.{numbered_more}

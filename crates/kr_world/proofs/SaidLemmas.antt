@@ -9,19 +9,21 @@ use Rattle.kr_order.specs.declared.history.Entry.{Entry}
 use Rattle.kr_order.specs.declared.message.Node as nodes
 use Rattle.kr_order.specs.declared.message.Node.TheVariants.{Manager, Client as OfClient, Server as OfServer}
 use Rattle.kr_order.specs.declared.message.Message.{Message}
-use Rattle.kr_order.specs.declared.message.Message.TheVariants.{Append, Ack}
+use Rattle.kr_order.specs.declared.message.Message.TheVariants.{Append, Ack, NewView}
 use Rattle.kr_order.specs.declared.message.Packet.{Packet}
+use Rattle.kr_order.specs.declared.view.View.{View}
 use Rattle.kr_order.specs.Prefix.{IsPrefix}
 use Rattle.kr_order.proofs.PrefixLemmas.{IsPrefix-refl, IsPrefix-length}
 use Rattle.kr_protocol.specs.Server.{Server, most_entries}
 use Rattle.kr_world.specs.Sound.{IsSoundAppend, IsSoundAck, IsSoundMessage}
 use Rattle.kr_world.proofs.ListFacts.{set_here, set_other}
 
--- what a server says of itself to another
+-- what a server says of itself to another; it sends no new view
 abbrev pub IsSaidBy : ServerId → ℕ → List Entry → nodes.Node → Message → Type 0
 IsSaidBy id done log from (Append first entries) =
     (from ≡ OfServer id) × (1 ≤ first) × (length entries ≤ most_entries) × (entries ≡ take (length entries) (drop (first - 1) log))
 IsSaidBy id done log from (Ack d n) = (from ≡ OfServer id) × (d ≤ done) × (n ≤ length log)
+IsSaidBy id done log from (NewView view) = ⊥
 IsSaidBy id done log from other = Unit {0}
 
 abbrev pub IsSaid : Server → Packet → Type 0
@@ -112,24 +114,25 @@ ack_stays servers i old after (OfServer server) done len is on said =
     }
 
 pub message_stays :
-    (servers : List Server) (i : ℕ) (old after : Server) (from : nodes.Node) (message : Message)
+    (views : List View) (servers : List Server) (i : ℕ) (old after : Server) (from : nodes.Node) (message : Message)
     → slice_get servers i ≡ Some old
     → GoesOn old after
-    → IsSoundMessage servers from message
-    → IsSoundMessage (set servers i after) from message
-message_stays servers i old after from (Append first entries) is on said = append_stays servers i old after from first entries is on said
-message_stays servers i old after from (Ack done len) is on said = ack_stays servers i old after from done len is on said
-message_stays servers i old after from other is on said = said
+    → IsSoundMessage views servers from message
+    → IsSoundMessage views (set servers i after) from message
+message_stays views servers i old after from (Append first entries) is on said = append_stays servers i old after from first entries is on said
+message_stays views servers i old after from (Ack done len) is on said = ack_stays servers i old after from done len is on said
+message_stays views servers i old after from other is on said = said
 
 -- what a server says of itself is true of the servers it is among
 pub said_message :
-    (servers : List Server) (server : Server) (from : nodes.Node) (message : Message)
+    (views : List View) (servers : List Server) (server : Server) (from : nodes.Node) (message : Message)
     → 1 ≤ server.id.0
     → slice_get servers (server.id.0 - 1) ≡ Some server
     → IsSaidBy server.id server.done server.log from message
-    → IsSoundMessage servers from message
-said_message servers server from (Append first entries) low there said =
+    → IsSoundMessage views servers from message
+said_message views servers server from (Append first entries) low there said =
     subst (λ f. IsSoundAppend servers f first entries) (sym said.0) (record { sender = server; from_low = low; first_low = said.1; there = there; few = said.2; stand = said.3 })
-said_message servers server from (Ack done len) low there said =
+said_message views servers server from (Ack done len) low there said =
     subst (λ f. IsSoundAck servers f done len) (sym said.0) (record { sender = server; from_low = low; there = there; done_so_far = said.1; len_so_far = said.2 })
-said_message servers server from other low there said = said
+said_message views servers server from (NewView view) low there said = absurd said
+said_message views servers server from other low there said = said

@@ -1,35 +1,49 @@
--- A server of a sound world, and who stands before and after it.
-use Rattle.std.proofs.Common.{◌≡◌, ℕ, ◌+◌, ◌-◌, ◌<◌, ◌≤◌, Bool, true, false, ◌&&◌, length, refl, sym, ap, ◌∙◌, subst, arith}
-use Rattle.std.specs.Prelude.{Option, None, Some, is_none, slice_get}
-use Rattle.std.proofs.lemmas.Bool.{eqb-true, false≢true}
+-- A server of a sound world that has not stopped, and who stands before and after it.
+use Rattle.std.proofs.Common.{◌≡◌, ◌⊎◌, ℕ, ◌-◌, ◌<◌, ◌≤◌, Bool, true, false, ◌&&◌, length, refl, sym, ap, ◌∙◌, subst, arith, inl, inr}
+use Rattle.std.specs.Prelude.{Option, None, Some, is_none, slice_get, slice_index_or}
+use Rattle.std.proofs.lemmas.Bool.{and_parts, eqb-true, false≢true}
 use Rattle.std.proofs.lemmas.Option.{none-some, same_Some, slice_get_within}
 use Rattle.kr_order.specs.declared.ids.ServerId.{ServerId}
 use Rattle.kr_order.specs.declared.view.View.{View}
 use Rattle.kr_order.specs.Prefix.{IsPrefix}
-use Rattle.kr_order.specs.View.{first_view, in_chain, next_of, prev_of, is_tail}
-use Rattle.kr_protocol.specs.Server.{Server, viewed, is_at_tail, is_server, prev, next}
-use Rattle.kr_world.specs.World.{World, server_at}
+use Rattle.kr_order.specs.View.{in_chain, last_member, next_of, prev_of, is_tail, is_head}
+use Rattle.kr_protocol.specs.Manager.{views_of}
+use Rattle.kr_protocol.specs.Server.{Server, viewed, is_member, is_first, is_at_tail, is_server, prev, view_number}
+use Rattle.kr_protocol.proofs.TimelineLemmas.{IsListed, made_by, rises}
+use Rattle.kr_protocol.proofs.NeighbourLemmas.{tail_last}
+use Rattle.kr_world.specs.World.{World, server_at, is_stopped}
 use Rattle.kr_world.specs.Sound.{IsSound, IsSoundServer}
-use Rattle.kr_world.proofs.ViewLemmas.{server_id}
-use Rattle.kr_world.proofs.ChainLemmas.{same_server, chain_of, members_hold}
+use Rattle.kr_world.proofs.ChainLemmas.{same_server, chain_of, live_member, member_holds}
 
--- a server at its number in a sound world
+-- a server at its number in a sound world, which has not stopped
 pub record IsSeated (world : World) (id : ServerId) (server : Server) : Type 0 where
   pub at : server_at world id ≡ Some server
   pub sound : IsSound world
-
-pub seated :
-    (world : World) (id : ServerId) (server : Server)
-    → server_at world id ≡ Some server
-    → IsSound world
-    → IsSeated world id server
-seated world id server at sound = record { at = at; sound = sound }
+  pub runs : is_stopped world server.id ≡ false
 
 pub own_of :
     (world : World) (id : ServerId) (server : Server)
     → IsSeated world id server
-    → IsSoundServer world.views world.servers world.history (length world.bag) (id.0 - 1) server
+    → IsSoundServer (views_of world.manager) world.servers world.history (length world.bag) (id.0 - 1) server
 own_of world id server seat = seat.sound.servers (id.0 - 1) server seat.at
+
+-- a server has stopped by the number at which it was looked up
+pub mark_of :
+    (world : World) (id : ServerId) (server : Server)
+    → server_at world id ≡ Some server
+    → IsSound world
+    → is_stopped world server.id ≡ is_stopped world id
+mark_of world id server at sound =
+    let number = (sound.servers (id.0 - 1) server at).id in
+    ap (λ k. slice_index_or world.stopped k false) (omega arith)
+
+pub seated :
+    (world : World) (id : ServerId) (server : Server)
+    → server_at world id ≡ Some server
+    → is_stopped world id ≡ false
+    → IsSound world
+    → IsSeated world id server
+seated world id server at runs sound = record { at = at; sound = sound; runs = mark_of world id server at sound ∙ runs }
 
 pub seat_within :
     (world : World) (id : ServerId) (server : Server)
@@ -37,68 +51,78 @@ pub seat_within :
     → id.0 - 1 < length world.servers
 seat_within world id server seat = slice_get_within world.servers (id.0 - 1) server seat.at
 
--- its number
-pub seat_id :
-    (world : World) (id : ServerId) (server : Server)
-    → IsSeated world id server
-    → server.id ≡ server_id (id.0 - 1 + 1)
-seat_id world id server seat = same_server server.id (server_id (id.0 - 1 + 1)) (own_of world id server seat).id
-
--- its view is the first one
-pub view_is :
-    (world : World) (id : ServerId) (server : Server)
-    → IsSeated world id server
-    → server.view ≡ Some (first_view (length world.servers))
-view_is world id server seat = (chain_of world seat.sound).adopted (id.0 - 1) server seat.at
-
-pub prev_is :
-    (world : World) (id : ServerId) (server : Server)
-    → IsSeated world id server
-    → prev server ≡ prev_of (first_view (length world.servers)) server.id
-prev_is world id server seat = ap (λ v. viewed None prev_of v server.id) (view_is world id server seat)
-
-pub next_is :
-    (world : World) (id : ServerId) (server : Server)
-    → IsSeated world id server
-    → next server ≡ next_of (first_view (length world.servers)) server.id
-next_is world id server seat = ap (λ v. viewed None next_of v server.id) (view_is world id server seat)
-
-pub tail_is :
-    (world : World) (id : ServerId) (server : Server)
-    → IsSeated world id server
-    → is_at_tail server ≡ is_tail (first_view (length world.servers)) server.id
-tail_is world id server seat = ap (λ v. viewed false is_tail v server.id) (view_is world id server seat)
-
--- the history stands in its log
+-- the history stands in its log where it is a member
 pub seat_holds :
     (world : World) (id : ServerId) (server : Server)
     → IsSeated world id server
+    → is_member server ≡ true
     → IsPrefix world.history server.log
-seat_holds world id server seat = members_hold world seat.sound (id.0 - 1) server seat.at
+seat_holds world id server seat member =
+    member_holds world seat.sound (id.0 - 1) server seat.at
+    (live_member (is_stopped world) world.manager world.servers (chain_of world seat.sound) (id.0 - 1) server seat.at seat.runs member)
 
--- who sits at a number that is not 0 has it
+-- the tail is a member, and so is the first
+pub tail_member : (server : Server) → is_at_tail server ≡ true → is_member server ≡ true
+tail_member server tail = by_view server.view tail
+  where
+    by_view : (view : Option View) → viewed false is_tail view server.id ≡ true → viewed false in_chain view server.id ≡ true
+    by_view None is = is
+    by_view (Some view) is = (and_parts (in_chain view server.id) (is_none (next_of view server.id)) is).0
+
+pub first_member : (server : Server) → is_first server ≡ true → is_member server ≡ true
+first_member server first = by_view server.view first
+  where
+    by_view : (view : Option View) → viewed false is_head view server.id ≡ true → viewed false in_chain view server.id ≡ true
+    by_view None is = is
+    by_view (Some view) is = (and_parts (in_chain view server.id) (is_none (prev_of view server.id)) is).0
+
+-- the tail by a view that is no older than its own is the last member of the current view
+pub tail_is_last :
+    (world : World) (id : ServerId) (server : Server) (view : View)
+    → IsSeated world id server
+    → IsListed world.manager view
+    → view_number server.view ≤ view.number
+    → is_tail view server.id ≡ true
+    → last_member world.manager.current ≡ Some server.id
+tail_is_last world id server view seat listed le tail =
+    let sound = seat.sound in
+    let its = tail_last view (made_by (is_stopped world) world.manager sound.evolves view) (rises (is_stopped world) world.manager sound.evolves view listed) server.id tail in
+    let number = (own_of world id server seat).id in
+    let there : server_at world server.id ≡ Some server = subst (λ n. slice_get world.servers n ≡ Some server) (omega arith) seat.at in
+    by_case (sound.old_tails (view.number - 1) view server.id server listed its.1 its.0 there)
+  where
+    by_case :
+        (last_member world.manager.current ≡ Some server.id) ⊎ ((is_stopped world server.id ≡ true) ⊎ (view.number < view_number server.view))
+        → last_member world.manager.current ≡ Some server.id
+    by_case (inl last) = last
+    by_case (inr (inl stopped)) = absurd (false≢true (sym seat.runs ∙ stopped))
+    by_case (inr (inr newer)) = absurd (omega arith)
+
+-- who stands at a number that is not 0 has it
 pub sender_is :
     (world : World) (from : ServerId) (sender : Server)
-    → IsSeated world from sender
+    → IsSound world
+    → server_at world from ≡ Some sender
     → 1 ≤ from.0
     → sender.id ≡ from
-sender_is world from sender seat low =
-    let number = (own_of world from sender seat).id in same_server sender.id from (omega arith)
+sender_is world from sender sound at low =
+    let number = (sound.servers (from.0 - 1) sender at).id in same_server sender.id from (omega arith)
 
 -- whoever stands before the server is that one
 pub one_before :
     (world : World) (server : Server) (from : ServerId) (sender : Server)
-    → IsSeated world from sender
+    → IsSound world
+    → server_at world from ≡ Some sender
     → 1 ≤ from.0
     → prev server ≡ Some from
     → (j : ℕ) (before : Server)
     → slice_get world.servers j ≡ Some before
     → prev server ≡ Some before.id
     → sender ≡ before
-one_before world server from sender seat low is j before at is' =
-    let number = (seat.sound.servers j before at).id in
+one_before world server from sender sound there low is j before at is' =
+    let number = (sound.servers j before at).id in
     let same : from ≡ before.id = same_Some from before.id (sym is ∙ is') in
-    same_Some sender before (sym seat.at ∙ subst (λ k. slice_get world.servers k ≡ Some before) (omega (arith, ap (λ (d : ServerId). d.0) same)) at)
+    same_Some sender before (sym there ∙ subst (λ k. slice_get world.servers k ≡ Some before) (omega (arith, ap (λ (d : ServerId). d.0) same)) at)
 
 -- a test that says that this is the server
 pub some_server : (found : Option ServerId) (id : ServerId) → is_server found id ≡ true → found ≡ Some id

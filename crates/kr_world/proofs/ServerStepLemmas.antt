@@ -1,20 +1,21 @@
 -- A server that goes on within bounds keeps the world sound.
-use Rattle.std.proofs.Common.{◌≡◌, ℕ, ◌+◌, ◌-◌, ◌<◌, ◌≤◌, List, [], ◌∷◌, ◌++◌, length, set, sym, ap, ◌∙◌, subst, arith}
+use Rattle.std.proofs.Common.{◌≡◌, ◌⊎◌, ℕ, ◌+◌, ◌-◌, ◌<◌, ◌≤◌, true, List, ◌++◌, length, set, refl, sym, ap, ◌∙◌, subst, arith, inl, inr}
 use Rattle.std.specs.Prelude.{Some, slice_get, All}
 use Rattle.std.proofs.lemmas.List.{length-append, length-set}
 use Rattle.std.proofs.lemmas.List.Elements.{All-append, All-weaker}
 use Rattle.kr_order.specs.declared.ids.ServerId.{ServerId}
 use Rattle.kr_order.specs.declared.history.Entry.{Entry}
-use Rattle.kr_order.specs.View.{first_view, in_chain}
+use Rattle.kr_order.specs.View.{last_member}
+use Rattle.kr_protocol.specs.Manager.{views_of}
 use Rattle.kr_protocol.specs.Reaction.{Reaction}
-use Rattle.kr_protocol.specs.Server.{Server}
-use Rattle.kr_world.specs.World.{World, longest}
+use Rattle.kr_protocol.specs.Server.{Server, view_number}
+use Rattle.kr_world.specs.World.{World, is_stopped, longest}
 use Rattle.kr_world.specs.Step.{bag_limit, server_reacts}
-use Rattle.kr_world.specs.Sound.{IsSound, IsSoundServer, IsSoundPacket}
+use Rattle.kr_world.specs.Sound.{IsSound, IsSoundServer, IsSoundPacket, OldTailsKnow}
 use Rattle.kr_world.proofs.ListFacts.{each_after_set, set_here, set_other}
 use Rattle.kr_world.proofs.SeatLemmas.{IsSeated, own_of, seat_within}
 use Rattle.kr_world.proofs.SaidLemmas.{GoesOn, IsSaid, message_stays, said_message}
-use Rattle.kr_world.proofs.BoundsLemmas.{IsWithinBounds, chain_after, tail_after}
+use Rattle.kr_world.proofs.BoundsLemmas.{IsWithinBounds, below_after}
 use Rattle.kr_world.proofs.ReactionLemmas.{grows_or_stays}
 use Rattle.kr_world.proofs.BagLemmas.{calls_under, marks_more, other_later}
 
@@ -30,7 +31,7 @@ server_after :
     (world : World) (id : ServerId) (old : Server) (reaction : Reaction Server)
     → IsSeated world id old
     → IsWithinBounds world old reaction
-    → IsSoundServer world.views (servers_now world id reaction) (history_now world id reaction) (length (world.bag ++ reaction.sent)) (id.0 - 1) reaction.after
+    → IsSoundServer (views_of world.manager) (servers_now world id reaction) (history_now world id reaction) (length (world.bag ++ reaction.sent)) (id.0 - 1) reaction.after
 server_after world id old reaction seat bounds =
     let own = own_of world id old seat in
     let grows = grows_or_stays world id old reaction seat bounds in
@@ -39,17 +40,12 @@ server_after world id old reaction seat bounds =
     let here = set_here world.servers (id.0 - 1) reaction.after (seat_within world id old seat) in
     record {
       id = ap (λ (d : ServerId). d.0) bounds.id ∙ own.id;
-      own_view = record {
-        view = own.own_view.view;
-        adopted = bounds.view ∙ own.own_view.adopted;
-        listed = own.own_view.listed;
-        named = ap (in_chain own.own_view.view) bounds.id ∙ own.own_view.named;
-      };
+      own_view = bounds.own_view;
       done = bounds.done;
       fed = bounds.fed;
-      below = (chain_after world id old reaction seat bounds).below (id.0 - 1) reaction.after here;
+      below = below_after world id old reaction seat bounds (id.0 - 1) reaction.after here;
       agreed = grows.agreed;
-      full = λ tail. bounds.full (sym (tail_after world old reaction bounds) ∙ tail);
+      full = bounds.full;
       waiting = bounds.waiting;
       entries = omega (arith, length-append world.bag reaction.sent);
     }
@@ -61,26 +57,25 @@ servers_after :
     → IsWithinBounds world old reaction
     → (i : ℕ) (server : Server)
     → slice_get (servers_now world id reaction) i ≡ Some server
-    → IsSoundServer world.views (servers_now world id reaction) (history_now world id reaction) (length (world.bag ++ reaction.sent)) i server
+    → IsSoundServer (views_of world.manager) (servers_now world id reaction) (history_now world id reaction) (length (world.bag ++ reaction.sent)) i server
 servers_after world id old reaction seat bounds =
     let now = servers_now world id reaction in
-    let chain = chain_after world id old reaction seat bounds in
     let grows = grows_or_stays world id old reaction seat bounds in
     let history = history_now world id reaction in
     let packets = length (world.bag ++ reaction.sent) in
     let longer = length-append world.bag reaction.sent in
-    each_after_set (IsSoundServer world.views now history packets) world.servers (id.0 - 1) reaction.after
+    each_after_set (IsSoundServer (views_of world.manager) now history packets) world.servers (id.0 - 1) reaction.after
     (server_after world id old reaction seat bounds)
     (λ i server other there.
     let stands = set_other world.servers (id.0 - 1) reaction.after i server other there in
-    other_later world now history packets i server seat.sound there (omega arith) grows.front (chain.below i server stands))
+    other_later world now history packets i server seat.sound there (omega arith) grows.front (below_after world id old reaction seat bounds i server stands))
 
 -- the packets are true of the servers then
 packets_after :
     (world : World) (id : ServerId) (old : Server) (reaction : Reaction Server)
     → IsSeated world id old
     → IsWithinBounds world old reaction
-    → All (IsSoundPacket (servers_now world id reaction)) (world.bag ++ reaction.sent)
+    → All (IsSoundPacket (views_of world.manager) (servers_now world id reaction)) (world.bag ++ reaction.sent)
 packets_after world id old reaction seat bounds =
     let i = id.0 - 1 in
     let after = reaction.after in
@@ -90,9 +85,31 @@ packets_after world id old reaction seat bounds =
     let on : GoesOn old after = record { grows = bounds.grows; done_grows = bounds.done_grows } in
     let here : slice_get now (after.id.0 - 1) ≡ Some after =
     subst (λ k. slice_get now k ≡ Some after) (omega arith) (set_here world.servers i after (seat_within world id old seat)) in
-    All-append (IsSoundPacket now) world.bag reaction.sent
-    (All-weaker (IsSoundPacket world.servers) (IsSoundPacket now) (λ packet said. message_stays world.servers i old after packet.from packet.message seat.at on said) world.bag seat.sound.packets)
-    (All-weaker (IsSaid after) (IsSoundPacket now) (λ packet said. said_message now after packet.from packet.message (omega arith) here said) reaction.sent bounds.sent)
+    let views = views_of world.manager in
+    let Now = IsSoundPacket views now in
+    All-append Now world.bag reaction.sent
+    (All-weaker (IsSoundPacket views world.servers) Now (λ packet said. message_stays views world.servers i old after packet.from packet.message seat.at on said) world.bag seat.sound.packets)
+    (All-weaker (IsSaid after) Now (λ packet said. said_message views now after packet.from packet.message (omega arith) here said) reaction.sent bounds.sent)
+
+-- and old tails know still
+old_tails_after :
+    (world : World) (id : ServerId) (old : Server) (reaction : Reaction Server)
+    → IsSeated world id old
+    → IsWithinBounds world old reaction
+    → OldTailsKnow (server_reacts world id reaction).after
+old_tails_after world id old reaction seat bounds k view tail server listed none last there =
+    each_after_set (λ j s. j ≡ tail.0 - 1 → Knows s) world.servers (id.0 - 1) reaction.after
+    (λ same. later (seat.sound.old_tails k view tail old listed none last (subst (λ j. slice_get world.servers j ≡ Some old) same seat.at)))
+    (λ j s other at same. seat.sound.old_tails k view tail s listed none last (subst (λ i. slice_get world.servers i ≡ Some s) same at))
+    (tail.0 - 1) server there refl
+  where
+    Knows : Server → Type 0
+    Knows s = (last_member world.manager.current ≡ Some tail) ⊎ ((is_stopped world tail ≡ true) ⊎ (view.number < view_number s.view))
+
+    later : Knows old → Knows reaction.after
+    later (inl last) = inl last
+    later (inr (inl stopped)) = inr (inl stopped)
+    later (inr (inr newer)) = let no_older = bounds.no_older in inr (inr (omega arith))
 
 pub reacts_sound :
     (world : World) (id : ServerId) (old : Server) (reaction : Reaction Server)
@@ -106,16 +123,22 @@ reacts_sound world id old reaction seat room bounds =
     let count : length (servers_now world id reaction) ≡ length world.servers = length-set world.servers (id.0 - 1) reaction.after in
     let longer : length bag ≡ length world.bag + length reaction.sent = length-append world.bag reaction.sent in
     let most = bounds.most in
+    let gained = bounds.gained in
+    let entries = (own_of world id old seat).entries in
     let under : length world.bag ≤ length bag = omega arith in
     let grows = grows_or_stays world id old reaction seat bounds in
     record {
-      views = sound.views ∙ ap (λ n. first_view n ∷ []) (sym count);
-      some = subst (λ n. 1 ≤ n) (sym count) sound.some;
+      evolves = sound.evolves;
+      made = sound.made ∙ sym count;
+      few = subst (λ n. n ≤ 64) (sym count) sound.few;
+      served = sound.served;
       servers = servers_after world id old reaction seat bounds;
-      last_holds = λ view last server current is there. grows.holds (last.0 - 1) server there;
+      last_holds = grows.last_holds;
+      old_tails = old_tails_after world id old reaction seat bounds;
       packets = packets_after world id old reaction seat bounds;
       calls = calls_under world.clients (length world.bag) (length bag) under sound.calls;
       bag = omega arith;
+      stopped = sound.stopped ∙ sym count;
       lost = marks_more world.lost world.bag reaction.sent sound.lost;
       delivered = marks_more world.delivered world.bag reaction.sent sound.delivered;
     }

@@ -1,37 +1,50 @@
 -- Every step keeps the world sound.
-use Rattle.std.proofs.Common.{◌≡◌, ℕ, ◌-◌, ◌<◌, length, refl}
+use Rattle.std.proofs.Common.{◌≡◌, ℕ, ◌-◌, ◌<◌, false, cond, length, refl, sym, subst}
 use Rattle.std.specs.Prelude.{Option, None, Some}
 use Rattle.kr_order.specs.declared.ids.ServerId.{ServerId}
 use Rattle.kr_order.specs.declared.message.Node as nodes
 use Rattle.kr_order.specs.declared.message.Node.TheVariants.{Manager, Client as ToClient, Server as ToServer}
 use Rattle.kr_order.specs.declared.message.Packet.{Packet}
-use Rattle.kr_protocol.specs.Server.{Server, server_takes, server_works, server_ticks}
+use Rattle.kr_protocol.specs.Manager.{views_of}
+use Rattle.kr_protocol.specs.Reaction.{ignored}
+use Rattle.kr_protocol.specs.Server.{Server, adopts, server_takes, server_works, server_ticks}
 use Rattle.script_lang.specs.declared.script.Event.{Event}
-use Rattle.script_lang.specs.declared.script.Event.TheVariants.{Call, Query, Retry, Deliver, Lose, Tick, Work, Show}
+use Rattle.script_lang.specs.declared.script.Event.TheVariants.{Call, Query, Retry, Deliver, Lose, Tick, Work, Stop, Notice, Show, Learn}
 use Rattle.kr_world.specs.declared.refusal.Refusal.{Refusal}
-use Rattle.kr_world.specs.World.{World, client_at, server_at, packet_at, marked}
-use Rattle.kr_world.specs.Step.{bag_limit, turn_refusal, deliver_refusal, tick_refusal, refusal_of, arrives_at_server, arrives, delivers, works, ticks, ticks_at, shows, act, unless}
+use Rattle.kr_world.specs.World.{World, client_at, server_at, packet_at, is_stopped, has_stopped, marked}
+use Rattle.kr_world.specs.Step.{bag_limit, if_full, turn_refusal, deliver_refusal, tick_refusal, refusal_of, arrives_at_server, arrives, delivers, works, ticks, ticks_at, shows, act, unless}
 use Rattle.kr_world.specs.Sound.{IsSound, IsSoundPacket, WorldsAreSound}
-use Rattle.kr_world.proofs.StepLemmas.{at_index, room_to_deliver, room_for_turn}
-use Rattle.kr_world.proofs.SeatLemmas.{IsSeated}
+use Rattle.kr_world.proofs.StepLemmas.{at_index, has_room, may_turn, may_deliver}
+use Rattle.kr_world.proofs.SeatLemmas.{IsSeated, seated}
 use Rattle.kr_world.proofs.BoundsLemmas.{IsWithinBounds}
-use Rattle.kr_world.proofs.HandlerLemmas.{takes_shape}
+use Rattle.kr_world.proofs.HandlerLemmas.{IsTaken, adopts_view, has_shape, taken_of}
 use Rattle.kr_world.proofs.TurnLemmas.{works_shape, ticks_shape}
 use Rattle.kr_world.proofs.BelowLemmas.{counted_of}
 use Rattle.kr_world.proofs.WithinLemmas.{shape_within}
+use Rattle.kr_world.proofs.AdoptLemmas.{adopts_within}
 use Rattle.kr_world.proofs.FirstLemmas.{first_is_sound}
 use Rattle.kr_world.proofs.BagLemmas.{lost_sound, delivered_sound}
-use Rattle.kr_world.proofs.ClientStepLemmas.{call_sound, query_sound, retry_sound, hears_sound}
+use Rattle.kr_world.proofs.ClientStepLemmas.{call_sound, query_sound, retry_sound, hears_sound, learn_sound}
 use Rattle.kr_world.proofs.ServerStepLemmas.{reacts_sound}
+use Rattle.kr_world.proofs.ManagerLemmas.{stop_sound, told_sound, notice_sound}
 
 -- what a server does with a packet that is true is within bounds
+taken_within :
+    (world : World) (id : ServerId) (packet : Packet) (server : Server)
+    → IsSeated world id server
+    → IsSoundPacket (views_of world.manager) world.servers packet
+    → IsTaken server packet
+    → IsWithinBounds world server (server_takes server packet)
+taken_within world id packet server seat said (adopts_view to view may) =
+    subst (λ test. IsWithinBounds world server (cond test (adopts server view) (ignored server))) (sym may) (adopts_within world id server view seat said may)
+taken_within world id packet server seat said (has_shape any shape) = shape_within world id server (Some packet) (server_takes server packet) seat said shape
+
 pub takes_within :
     (world : World) (id : ServerId) (packet : Packet) (server : Server)
     → IsSeated world id server
-    → IsSoundPacket world.servers packet
+    → IsSoundPacket (views_of world.manager) world.servers packet
     → IsWithinBounds world server (server_takes server packet)
-takes_within world id packet server seat said =
-    shape_within world id server (Some packet) (server_takes server packet) seat said (takes_shape server packet (counted_of world id server seat))
+takes_within world id packet server seat said = taken_within world id packet server seat said (taken_of server packet (counted_of world id server seat))
 
 -- so is what it does when it works
 pub work_within :
@@ -50,43 +63,46 @@ tick_within world id server seat = shape_within world id server None (server_tic
 takes_sound :
     (world : World) (id : ServerId) (packet : Packet) (found : Option Server)
     → server_at world id ≡ found
+    → is_stopped world id ≡ false
     → length world.bag < bag_limit
-    → IsSoundPacket world.servers packet
+    → IsSoundPacket (views_of world.manager) world.servers packet
     → IsSound world
     → IsSound (arrives_at_server world id packet found).after
-takes_sound world id packet None is room said sound = sound
-takes_sound world id packet (Some server) is room said sound =
-    let seat : IsSeated world id server = record { at = is; sound = sound } in
+takes_sound world id packet None is runs room said sound = sound
+takes_sound world id packet (Some server) is runs room said sound =
+    let seat = seated world id server is runs sound in
     reacts_sound world id server (server_takes server packet) seat room (takes_within world id packet server seat said)
 
 work_sound :
     (world : World) (id : ServerId) (found : Option Server)
     → server_at world id ≡ found
-    → turn_refusal world found ≡ None
+    → turn_refusal world id found ≡ None
     → IsSound world
     → IsSound (works world id found).after
 work_sound world id None is none sound = sound
 work_sound world id (Some server) is none sound =
-    let seat : IsSeated world id server = record { at = is; sound = sound } in
-    reacts_sound world id server (server_works server) seat (room_for_turn world server none) (work_within world id server seat)
+    let may = may_turn world id (Some server) (if_full world) none in
+    let seat = seated world id server is may.runs sound in
+    reacts_sound world id server (server_works server) seat (has_room world may.free) (work_within world id server seat)
 
 tick_sound :
     (world : World) (id : ServerId) (found : Option Server)
     → server_at world id ≡ found
-    → turn_refusal world found ≡ None
+    → turn_refusal world id found ≡ None
     → IsSound world
     → IsSound (ticks_at world id found).after
 tick_sound world id None is none sound = sound
 tick_sound world id (Some server) is none sound =
-    let seat : IsSeated world id server = record { at = is; sound = sound } in
-    reacts_sound world id server (server_ticks server) seat (room_for_turn world server none) (tick_within world id server seat)
+    let may = may_turn world id (Some server) (if_full world) none in
+    let seat = seated world id server is may.runs sound in
+    reacts_sound world id server (server_ticks server) seat (has_room world may.free) (tick_within world id server seat)
 
 ticks_sound :
     (world : World) (who : Option ServerId)
     → tick_refusal world who ≡ None
     → IsSound world
     → IsSound (ticks world who).after
-ticks_sound world None none sound = sound
+ticks_sound world None none sound = told_sound world (has_room world none) sound
 ticks_sound world (Some server) none sound = tick_sound world server (server_at world server) refl none sound
 
 shows_sound :
@@ -98,13 +114,15 @@ shows_sound world id (Some server) sound = sound
 
 arrives_sound :
     (world : World) (to : nodes.Node) (packet : Packet)
+    → has_stopped world to ≡ false
     → length world.bag < bag_limit
-    → IsSoundPacket world.servers packet
+    → IsSoundPacket (views_of world.manager) world.servers packet
     → IsSound world
     → IsSound (arrives world to packet).after
-arrives_sound world Manager packet room said sound = sound
-arrives_sound world (ToClient client) packet room said sound = hears_sound world client packet (client_at world client) refl room sound
-arrives_sound world (ToServer server) packet room said sound = takes_sound world server packet (server_at world server) refl room said sound
+arrives_sound world Manager packet runs room said sound = sound
+arrives_sound world (ToClient client) packet runs room said sound = hears_sound world client packet (client_at world client) refl room sound
+arrives_sound world (ToServer server) packet runs room said sound =
+    takes_sound world server packet (server_at world server) refl runs room said sound
 
 delivers_sound :
     (world : World) (k : ℕ) (found : Option Packet)
@@ -114,9 +132,9 @@ delivers_sound :
     → IsSound (delivers world k found).after
 delivers_sound world k None is none sound = sound
 delivers_sound world k (Some packet) is none sound =
-    let said = at_index (IsSoundPacket world.servers) world.bag (k - 1) packet sound.packets is in
-    let room = room_to_deliver world k packet none in
-    arrives_sound (record world { delivered = marked world.delivered k }) packet.to packet room said (delivered_sound world k sound)
+    let said = at_index (IsSoundPacket (views_of world.manager) world.servers) world.bag (k - 1) packet sound.packets is in
+    let may = may_deliver world k packet none in
+    arrives_sound (record world { delivered = marked world.delivered k }) packet.to packet may.runs may.room said (delivered_sound world k sound)
 
 act_sound :
     (world : World) (event : Event)
@@ -130,7 +148,10 @@ act_sound world (Deliver k) none sound = delivers_sound world k (packet_at world
 act_sound world (Lose k) none sound = lost_sound world k sound
 act_sound world (Tick who) none sound = ticks_sound world who none sound
 act_sound world (Work server workers) none sound = work_sound world server (server_at world server) refl none sound
+act_sound world (Stop server) none sound = stop_sound world server (server_at world server) refl none sound
+act_sound world (Notice server) none sound = notice_sound world server (server_at world server) refl none sound
 act_sound world (Show server) none sound = shows_sound world server (server_at world server) sound
+act_sound world (Learn client) none sound = learn_sound world client (client_at world client) refl sound
 
 step_cases :
     (world : World) (event : Event) (refusal : Option Refusal)

@@ -4,13 +4,14 @@ use Rattle.std.specs.Prelude.{Option, None, Some, is_some, slice_get, All}
 use Rattle.std.proofs.lemmas.Bool.{leb-false, false≢true, or_parts}
 use Rattle.std.proofs.lemmas.Option.{none-some, slice_get_within, get_or_from_slice_get}
 use Rattle.std.proofs.lemmas.List.Elements.{All-get_or}
+use Rattle.kr_order.specs.declared.ids.ServerId.{ServerId}
 use Rattle.kr_order.specs.declared.message.Packet.{Packet}
 use Rattle.kr_protocol.specs.Server.{Server}
 use Rattle.kr_protocol.specs.Client.{Client, is_busy}
 use Rattle.kr_world.specs.declared.refusal.Refusal.{Refusal}
-use Rattle.kr_world.specs.declared.refusal.Refusal.TheVariants.{NoSuchClient, NoSuchServer, Busy, NothingOpen, Lost, BagFull}
-use Rattle.kr_world.specs.World.{World, is_marked, bytes_of}
-use Rattle.kr_world.specs.Step.{bag_limit, byte_limit, is_full, if_full, call_refusal, query_refusal, retry_refusal, turn_refusal, deliver_refusal}
+use Rattle.kr_world.specs.declared.refusal.Refusal.TheVariants.{NoSuchClient, NoSuchServer, Stopped, Busy, NothingOpen, Lost, BagFull}
+use Rattle.kr_world.specs.World.{World, is_marked, is_stopped, has_stopped, bytes_of}
+use Rattle.kr_world.specs.Step.{bag_limit, byte_limit, is_full, if_full, call_refusal, server_refusal, query_refusal, retry_refusal, deliver_refusal}
 
 -- what holds of each element holds of the one at an index
 pub at_index : {X : Type 0} (P : X → Type 0) (xs : List X) (i : ℕ) (x : X) → All P xs → slice_get xs i ≡ Some x → P x
@@ -22,7 +23,7 @@ none_of None is = refl
 none_of (Some x) is = absurd (false≢true (sym is))
 
 -- a test that refuses has failed where nothing is refused, and nor do the tests behind it refuse
-passed :
+pub passed :
     (why : Refusal) (test : Bool) (rest : Option Refusal)
     → cond test (Some why) rest ≡ None
     → (test ≡ false) × (rest ≡ None)
@@ -30,7 +31,7 @@ passed why true rest none = absurd (none-some why (sym none))
 passed why false rest none = (refl, none)
 
 -- a step that may send and is not refused finds room in the bag
-has_room : (world : World) → if_full world ≡ None → length world.bag < bag_limit
+pub has_room : (world : World) → if_full world ≡ None → length world.bag < bag_limit
 has_room world none =
     let roomy : is_full world ≡ false = (passed BagFull (is_full world) None none).0 in
     leb-false bag_limit (length world.bag) (or_parts (leb bag_limit (length world.bag)) (leb byte_limit (bytes_of world.bag)) roomy).0
@@ -44,22 +45,35 @@ pub idle_client : (world : World) (client : Client) → call_refusal world (Some
 idle_client world client none =
     let free = passed Busy (is_busy client) (if_full world) none in record { idle = free.0; room = has_room world free.1 }
 
+-- a server that is not refused is there, has not stopped, and nothing else refuses it
+pub record MayTurn (world : World) (id : ServerId) (found : Option Server) (rest : Option Refusal) : Type 0 where
+  pub server : Server
+  pub server_is : found ≡ Some server
+  pub runs : is_stopped world id ≡ false
+  pub free : rest ≡ None
+
+pub may_turn :
+    (world : World) (id : ServerId) (found : Option Server) (rest : Option Refusal)
+    → server_refusal world id found rest ≡ None
+    → MayTurn world id found rest
+may_turn world id None rest none = absurd (none-some NoSuchServer (sym none))
+may_turn world id (Some server) rest none =
+    let both = passed Stopped (is_stopped world id) rest none in
+    record { server = server; server_is = refl; runs = both.0; free = both.1 }
+
 -- a query that is not refused is of a client that may call, to a server that is there
-pub record MayAsk (world : World) (found : Option Client) (to : Option Server) : Type 0 where
+pub record MayAsk (world : World) (found : Option Client) : Type 0 where
   pub client : Client
   pub client_is : found ≡ Some client
   pub may_call : call_refusal world (Some client) ≡ None
-  pub server : Server
-  pub server_is : to ≡ Some server
 
 pub may_ask :
-    (world : World) (found : Option Client) (to : Option Server)
-    → query_refusal world found to ≡ None
-    → MayAsk world found to
-may_ask world None to none = absurd (none-some NoSuchClient (sym none))
-may_ask world (Some client) None none = absurd (none-some NoSuchServer (sym none))
-may_ask world (Some client) (Some server) none =
-    record { client = client; client_is = refl; may_call = none; server = server; server_is = refl }
+    (world : World) (id : ServerId) (found : Option Client) (to : Option Server)
+    → query_refusal world id found to ≡ None
+    → MayAsk world found
+may_ask world id None to none = absurd (none-some NoSuchClient (sym none))
+may_ask world id (Some client) to none =
+    record { client = client; client_is = refl; may_call = (may_turn world id to (call_refusal world (Some client)) none).free }
 
 -- an idle client has no open command
 pub no_call : (client : Client) → is_busy client ≡ false → client.call ≡ None
@@ -77,12 +91,12 @@ pub record MayRetry (world : World) (found : Option Client) : Type 0 where
   pub room : length world.bag < bag_limit
 
 pub may_retry :
-    (world : World) (found : Option Client) (to : Option Server)
-    → retry_refusal world found to ≡ None
+    (world : World) (id : ServerId) (found : Option Client) (to : Option Server)
+    → retry_refusal world id found to ≡ None
     → MayRetry world found
-may_retry world None to none = absurd (none-some NoSuchClient (sym none))
-may_retry world (Some client) None none = absurd (none-some NoSuchServer (sym none))
-may_retry world (Some client) (Some server) none = by_test (is_busy client) refl none
+may_retry world id None to none = absurd (none-some NoSuchClient (sym none))
+may_retry world id (Some client) to none =
+    by_test (is_busy client) refl (may_turn world id to (cond (is_busy client) (if_full world) (Some NothingOpen)) none).free
   where
     by_test :
         (busy : Bool)
@@ -92,16 +106,17 @@ may_retry world (Some client) (Some server) none = by_test (is_busy client) refl
     by_test true busy none = record { client = client; client_is = refl; busy = busy; room = has_room world none }
     by_test false busy none = absurd (none-some NothingOpen (sym none))
 
--- a delivery that is not refused finds room in the bag
-pub room_to_deliver :
+-- a delivery that is not refused is to a node that has not stopped, and finds room in the bag
+pub record MayDeliver (world : World) (packet : Packet) : Type 0 where
+  pub runs : has_stopped world packet.to ≡ false
+  pub room : length world.bag < bag_limit
+
+pub may_deliver :
     (world : World) (k : ℕ) (packet : Packet)
     → deliver_refusal world k (Some packet) ≡ None
-    → length world.bag < bag_limit
-room_to_deliver world k packet none = has_room world (passed Lost (is_marked world.lost k) (if_full world) none).1
-
--- so does a server's turn
-pub room_for_turn :
-    (world : World) (server : Server)
-    → turn_refusal world (Some server) ≡ None
-    → length world.bag < bag_limit
-room_for_turn world server none = has_room world none
+    → MayDeliver world packet
+may_deliver world k packet none =
+    let rest = cond (is_marked world.lost k) (Some Lost) (if_full world) in
+    let first = passed Stopped (has_stopped world packet.to) rest none in
+    let second = passed Lost (is_marked world.lost k) (if_full world) first.1 in
+    record { runs = first.0; room = has_room world second.1 }

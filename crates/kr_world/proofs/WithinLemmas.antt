@@ -1,16 +1,17 @@
 -- A reaction that has the shape keeps to the bounds.
-use Rattle.std.proofs.Common.{◌≡◌, ℕ, ◌⊎◌, ◌+◌, ◌-◌, ◌*◌, ◌≤◌, Bool, true, false, List, [], ◌∷◌, length, take, drop, refl, sym, ap, ◌∙◌, subst, arith, inl, inr}
-use Rattle.std.specs.Prelude.{Option}
+use Rattle.std.proofs.Common.{◌≡◌, ◌⊎◌, ◌+◌, ◌-◌, ◌*◌, ◌≤◌, false, List, [], ◌∷◌, length, take, drop, refl, sym, ap, ◌∙◌, subst, arith, inl, inr}
+use Rattle.std.specs.Prelude.{Option, None}
 use Rattle.std.proofs.lemmas.List.{length-append, length-take}
 use Rattle.std.proofs.lemmas.List.Elements.{All-weaker}
 use Rattle.kr_order.specs.declared.ids.ServerId.{ServerId}
 use Rattle.kr_order.specs.declared.answer.Query.{Query}
-use Rattle.kr_order.specs.declared.history.Entry.{Entry}
 use Rattle.kr_order.specs.declared.message.Packet.{Packet}
 use Rattle.kr_order.specs.Prefix.{IsPrefix}
+use Rattle.kr_order.specs.View.{prev_of, is_tail}
 use Rattle.kr_order.proofs.PrefixLemmas.{IsPrefix-take, IsPrefix-append, take_front}
+use Rattle.kr_protocol.specs.Manager.{names}
 use Rattle.kr_protocol.specs.Reaction.{Reaction}
-use Rattle.kr_protocol.specs.Server.{Server, most_entries, most_waiting, is_at_tail, next_entries}
+use Rattle.kr_protocol.specs.Server.{Server, most_entries, most_waiting, viewed, is_at_tail, prev, view_number, next_entries}
 use Rattle.kr_world.specs.World.{World}
 use Rattle.kr_world.proofs.SeatLemmas.{IsSeated, own_of}
 use Rattle.kr_world.proofs.SaidLemmas.{IsSaid}
@@ -38,7 +39,7 @@ entries_stand server =
     let rest = drop server.fed server.log in
     sym (ap (λ n. take (length (take most_entries rest)) (drop n server.log)) (omega arith) ∙ take_front (take most_entries rest) rest (IsPrefix-take most_entries rest))
 
-sent_said : (old after : Server) (packet : Packet) → IsSent old after packet → IsSaid after packet
+pub sent_said : (old after : Server) (packet : Packet) → IsSent old after packet → IsSaid after packet
 sent_said old after packet (sends_reply done at) = tt
 sent_said old after packet (sends_ack to) = (refl, omega arith, omega arith)
 sent_said old after packet (sends_window to) =
@@ -46,25 +47,10 @@ sent_said old after packet (sends_window to) =
 sent_said old after packet (sends_answer query at) = tt
 sent_said old after packet (sends_view view query) = tt
 
--- the tail has replies for the entries that it gained, and for no others
-few_replies :
-    (old : Server) (log : List Entry) (done replies : ℕ)
-    → old.done ≤ length old.log
-    → (is_at_tail old ≡ true → old.done ≡ length old.log)
-    → (is_at_tail old ≡ false → replies ≡ 0)
-    → replies ≤ done - old.done
-    → done ≤ length log
-    → replies ≤ length log - length old.log
-few_replies old log done replies le full middle newly within = by_test (is_at_tail old) refl
-  where
-    by_test : (tail : Bool) → is_at_tail old ≡ tail → replies ≤ length log - length old.log
-    by_test true tail = let all = full tail in omega arith
-    by_test false tail = let none = middle tail in omega arith
-
 pub shape_within :
     (world : World) (id : ServerId) (server : Server) (came : Option Packet) (reaction : Reaction Server)
     → IsSeated world id server
-    → IsSoundCame world.servers came
+    → IsSoundCame world came
     → HasShape came server reaction
     → IsWithinBounds world server reaction
 shape_within world id server came reaction seat said shape =
@@ -72,28 +58,37 @@ shape_within world id server came reaction seat said shape =
     let after = reaction.after in
     let more = shape.more in
     let long : length after.log ≡ length server.log + length more = ap length shape.log ∙ length-append server.log more in
-    let few : length more ≤ most_entries = gained_few world.servers server came more said shape.gains in
+    let few : length more ≤ most_entries = gained_few world server came more said shape.gains in
     let agreed : IsAgreed world server after.log after.done =
     subst (λ l. IsAgreed world server l after.done) (sym shape.log) (agreed_so world id server came more after.done seat said shape.done) in
-    let replies : shape.replies ≤ length after.log - length server.log =
-    few_replies server after.log after.done shape.replies own.done own.full shape.middle shape.newly agreed.within in
+    let replies = shape.newly in
+    let within = agreed.within in
+    let waited = own.waiting in
     let fed_before = own.fed in
     let fed = shape.fed in
-    let waited = own.waiting in
     let sent = shape.few in
+    let prev_is : prev after ≡ prev server = ap (λ v. viewed None prev_of v after.id) shape.view ∙ ap (viewed None prev_of server.view) shape.id in
+    let tail_is : is_at_tail after ≡ is_at_tail server = ap (λ v. viewed false is_tail v after.id) shape.view ∙ ap (viewed false is_tail server.view) shape.id in
     record {
       id = shape.id;
-      view = shape.view;
+      own_view = record {
+        view = own.own_view.view;
+        adopted = shape.view ∙ own.own_view.adopted;
+        listed = own.own_view.listed;
+        named = ap (names own.own_view.view) shape.id ∙ own.own_view.named;
+      };
+      no_older = omega (arith, ap view_number shape.view);
       grows = subst (λ l. IsPrefix server.log l) (sym shape.log) (IsPrefix-append server.log more);
-      below = λ j before there is. subst (λ l. IsPrefix l before.log) (sym shape.log) (gained_below world id server came more seat said shape.gains j before there is);
+      below = λ j before there is. subst (λ l. IsPrefix l before.log) (sym shape.log) (gained_below world id server came more seat said shape.gains j before there (sym prev_is ∙ is));
       done_grows = agreed.grows;
       done = agreed.within;
       fed = omega arith;
-      agreed = agreed.agreed;
-      full = agreed.full;
+      agreed = λ tail. agreed.agreed (sym tail_is ∙ tail);
+      full = λ tail. agreed.full (sym tail_is ∙ tail);
       waiting = waits_few server came after.waiting own.waiting shape.waiting;
       counted = by_some shape.some;
       most = omega arith;
+      gained = omega arith;
       sent = All-weaker (IsSent server after) (IsSaid after) (λ packet sent. sent_said server after packet sent) reaction.sent shape.sent;
     }
   where
@@ -101,4 +96,4 @@ shape_within world id server came reaction seat said shape =
         (shape.more ≡ []) ⊎ (1 ≤ length reaction.sent)
         → length reaction.after.log ≤ length server.log + most_entries * length reaction.sent
     by_some (inl none) = omega (arith, ap length shape.log, length-append server.log shape.more, ap length none)
-    by_some (inr some) = omega (arith, ap length shape.log, length-append server.log shape.more, gained_few world.servers server came shape.more said shape.gains)
+    by_some (inr some) = omega (arith, ap length shape.log, length-append server.log shape.more, gained_few world server came shape.more said shape.gains)

@@ -6,6 +6,7 @@ pub mod Run
 pub mod Rows
 pub mod ChainRows
 pub mod QueryRows
+pub mod StopRows
 pub mod HeldRows
 pub mod Sound
 pub mod Lawful

@@ -1,32 +1,35 @@
 -- What holds of every world of a run, and its code relies on: how the servers' logs, what is acknowledged, the
 -- history and the packets between servers stand to each other.
-use Rattle.std.specs.Prelude.{ℕ, ◌+◌, ◌-◌, ◌*◌, ◌≡◌, ◌≤◌, true, length, take, drop, List, [], ◌∷◌, All, slice_get, Some}
+use Rattle.std.specs.Prelude.{ℕ, ◌+◌, ◌-◌, ◌*◌, ◌≡◌, ◌≤◌, ◌<◌, ◌⊎◌, Bool, true, false, length, take, drop, List, All, slice_get, None, Some}
 use Rattle.kr_order.specs.declared.ids.ServerId.{ServerId}
 use Rattle.kr_order.specs.declared.history.Entry.{Entry}
 use Rattle.kr_order.specs.declared.message.Node as nodes
-use Rattle.kr_order.specs.declared.message.Node.TheVariants.{Manager, Client as OfClient, Server as OfServer}
+use Rattle.kr_order.specs.declared.message.Node.TheVariants.{Manager as OfManager, Client as OfClient, Server as OfServer}
 use Rattle.kr_order.specs.declared.message.Message.{Message}
-use Rattle.kr_order.specs.declared.message.Message.TheVariants.{Append, Ack}
+use Rattle.kr_order.specs.declared.message.Message.TheVariants.{Append, Ack, NewView}
 use Rattle.kr_order.specs.declared.message.Packet.{Packet}
 use Rattle.kr_order.specs.declared.view.View.{View}
 use Rattle.kr_order.specs.Prefix.{IsPrefix}
-use Rattle.kr_order.specs.View.{first_view, in_chain, last_member}
+use Rattle.kr_order.specs.View.{in_chain, last_member}
 use Rattle.script_lang.specs.declared.script.Event.{Event}
-use Rattle.kr_protocol.specs.Server.{Server, most_entries, most_waiting, acknowledged, is_at_tail, prev}
+use Rattle.kr_protocol.specs.Manager.{names, views_of}
+use Rattle.kr_protocol.specs.Evolves.{Evolves}
+use Rattle.kr_protocol.specs.Server.{Server, most_entries, most_waiting, acknowledged, is_at_tail, prev, view_number}
 use Rattle.kr_protocol.specs.Client.{Client}
-use Rattle.kr_world.specs.World.{World, first_world}
+use Rattle.kr_world.specs.World.{World, first_world, server_at, is_stopped}
 use Rattle.kr_world.specs.Step.{step, bag_limit}
 
--- a step begins with room in the bag and sends at most one packet for each query that may wait
+-- a step begins with room in the bag, and sends at most one packet for each query that may wait or for each entry that
+-- a log may have
 abbrev pub most_packets : ℕ
-most_packets = bag_limit + most_waiting
+most_packets = bag_limit + most_waiting + most_entries * bag_limit
 
 -- the view that a server has adopted is one of the manager's, and names the server
 pub record IsOwnView (views : List View) (server : Server) : Type 0 where
   pub view : View
   pub adopted : server.view ≡ Some view
   pub listed : slice_get views (view.number - 1) ≡ Some view
-  pub named : in_chain view server.id ≡ true
+  pub named : names view server.id ≡ true
 
 -- what stands in the server's log stands in that of its predecessor, by the view that it has adopted
 abbrev pub IsBelowPredecessor : List Server → Server → Type 0
@@ -69,53 +72,74 @@ pub record HasSoMany (servers : List Server) (from : ServerId) (done len : ℕ) 
   pub len_so_far : len ≤ length sender.log
 
 abbrev pub IsSoundAppend : List Server → nodes.Node → ℕ → List Entry → Type 0
-IsSoundAppend servers Manager first entries = Unit {0}
+IsSoundAppend servers OfManager first entries = Unit {0}
 IsSoundAppend servers (OfClient client) first entries = Unit {0}
 IsSoundAppend servers (OfServer server) first entries = AreInLog servers server first entries
 
 abbrev pub IsSoundAck : List Server → nodes.Node → ℕ → ℕ → Type 0
-IsSoundAck servers Manager done len = Unit {0}
+IsSoundAck servers OfManager done len = Unit {0}
 IsSoundAck servers (OfClient client) done len = Unit {0}
 IsSoundAck servers (OfServer server) done len = HasSoMany servers server done len
 
-abbrev pub IsSoundMessage : List Server → nodes.Node → Message → Type 0
-IsSoundMessage servers from (Append first entries) = IsSoundAppend servers from first entries
-IsSoundMessage servers from (Ack done len) = IsSoundAck servers from done len
-IsSoundMessage servers from other = Unit {0}
+abbrev pub IsSoundMessage : List View → List Server → nodes.Node → Message → Type 0
+IsSoundMessage views servers from (Append first entries) = IsSoundAppend servers from first entries
+IsSoundMessage views servers from (Ack done len) = IsSoundAck servers from done len
+IsSoundMessage views servers from (NewView view) = slice_get views (view.number - 1) ≡ Some view
+IsSoundMessage views servers from other = Unit {0}
 
--- what a server says to another is true of its log, whenever it was sent
-abbrev pub IsSoundPacket : List Server → Packet → Type 0
-IsSoundPacket servers packet = IsSoundMessage servers packet.from packet.message
+-- what a server says to another is true of its log, whenever it was sent, and the views in packets are the manager's
+abbrev pub IsSoundPacket : List View → List Server → Packet → Type 0
+IsSoundPacket views servers packet = IsSoundMessage views servers packet.from packet.message
 
--- the last holds the history: it stands in the log of the last member of the manager's current view
-abbrev pub LastHolds : List View → List Server → List Entry → Type 0
-LastHolds views servers history =
-    (view : View) (id : ServerId) (server : Server)
-    → slice_get views (length views - 1) ≡ Some view
-    → last_member view ≡ Some id
-    → slice_get servers (id.0 - 1) ≡ Some server
+-- the last holds the history: it stands in the log of the last member of this view, the manager's current one
+abbrev pub LastHolds : View → List Server → List Entry → Type 0
+LastHolds current servers history =
+    (last : ServerId) (server : Server)
+    → last_member current ≡ Some last
+    → slice_get servers (last.0 - 1) ≡ Some server
     → IsPrefix history server.log
 
+-- old tails know: who is the tail by some view is the last member of the current one too, or has stopped, or has adopted
+-- a later view than that
+abbrev pub OldTailsKnow : World → Type 0
+OldTailsKnow world =
+    (k : ℕ) (view : View) (tail : ServerId) (server : Server)
+    → slice_get (views_of world.manager) k ≡ Some view
+    → view.joiner ≡ None
+    → last_member view ≡ Some tail
+    → server_at world tail ≡ Some server
+    → (last_member world.manager.current ≡ Some tail) ⊎ ((is_stopped world tail ≡ true) ⊎ (view.number < view_number server.view))
+
+-- a member of the view has not stopped
+pub record IsServed (stopped : ServerId → Bool) (view : View) : Type 0 where
+  pub member : ServerId
+  pub in_it : in_chain view member ≡ true
+  pub runs : stopped member ≡ false
+
 pub record IsSound (world : World) : Type 0 where
-  -- the manager has made one view, of all servers
-  pub views : world.views ≡ first_view (length world.servers) ∷ []
-  pub some : 1 ≤ length world.servers
+  -- the manager's views came of one another, and name the servers that there are
+  pub evolves : Evolves (is_stopped world) world.manager
+  pub made : world.manager.made ≡ length world.servers
+  pub few : length world.servers ≤ 64
+  pub served : IsServed (is_stopped world) world.manager.current
   pub servers :
       (i : ℕ) (server : Server)
       → slice_get world.servers i ≡ Some server
-      → IsSoundServer world.views world.servers world.history (length world.bag) i server
-  pub last_holds : LastHolds world.views world.servers world.history
-  pub packets : All (IsSoundPacket world.servers) world.bag
+      → IsSoundServer (views_of world.manager) world.servers world.history (length world.bag) i server
+  pub last_holds : LastHolds world.manager.current world.servers world.history
+  pub old_tails : OldTailsKnow world
+  pub packets : All (IsSoundPacket (views_of world.manager) world.servers) world.bag
   -- each command had a packet of its own
   pub calls : All (λ client. client.seq ≤ length world.bag) world.clients
   pub bag : length world.bag ≤ most_packets
-  -- the marks stand beside the packets
+  -- the marks stand beside the servers and the packets
+  pub stopped : length world.stopped ≡ length world.servers
   pub lost : length world.lost ≡ length world.bag
   pub delivered : length world.delivered ≡ length world.bag
 
 -- the first world is sound, and every step keeps a world so
 pub record WorldsAreSound : Type 0 where
-  pub first : (servers clients : ℕ) → 1 ≤ servers → IsSound (first_world servers clients)
+  pub first : (servers clients : ℕ) → 1 ≤ servers → servers ≤ 64 → IsSound (first_world servers clients)
   pub later : (world : World) (event : Event) → IsSound world → IsSound (step world event).after
 
 -- each client has begun so many queries at the most

@@ -1,5 +1,5 @@
 -- What an event does to the world: why it is refused, or else what it does.
-use Rattle.std.specs.Prelude.{ℕ, ◌-◌, List, [], ◌∷◌, length, nat_le, ◌||◌, if◌then◌else◌, slice_set, map, Bool, Option, None, Some}
+use Rattle.std.specs.Prelude.{ℕ, ◌-◌, List, [], ◌∷◌, length, nat_le, ◌&&◌, ◌||◌, not, true, if◌then◌else◌, slice_set, map, Bool, Option, None, Some}
 use Rattle.kr_order.specs.declared.ids.ClientId.{ClientId}
 use Rattle.kr_order.specs.declared.ids.ServerId.{ServerId}
 use Rattle.kr_order.specs.declared.history.Command.{Command}
@@ -7,19 +7,20 @@ use Rattle.kr_order.specs.declared.history.ToldReply.{ToldReply}
 use Rattle.kr_order.specs.declared.ids.EventId.{EventId}
 use Rattle.kr_order.specs.declared.answer.ToldPart.{ToldPart}
 use Rattle.kr_order.specs.declared.message.Node as nodes
-use Rattle.kr_order.specs.declared.message.Node.TheVariants.{Manager, Client as ToClient, Server as ToServer}
+use Rattle.kr_order.specs.declared.message.Node.TheVariants.{Manager as ToManager, Client as ToClient, Server as ToServer}
 use Rattle.kr_order.specs.declared.message.Packet.{Packet}
 use Rattle.kr_protocol.specs.Reaction.{Reaction}
-use Rattle.kr_protocol.specs.Server.{Server, acknowledged, server_takes, server_works, server_ticks}
-use Rattle.kr_protocol.specs.Client.{Client, Hearing, is_busy, begins, asks, retries, client_takes}
+use Rattle.kr_protocol.specs.Server.{Server, acknowledged, view_number, server_takes, server_works, server_ticks}
+use Rattle.kr_protocol.specs.Client.{Client, Hearing, is_busy, unheard, begins, asks, retries, learns, client_takes}
 use Rattle.script_lang.specs.declared.script.Event.{Event}
-use Rattle.script_lang.specs.declared.script.Event.TheVariants.{Call, Query, Retry, Deliver, Lose, Tick, Work, Show}
-use Rattle.kr_order.specs.declared.view.View.{View}
+use Rattle.script_lang.specs.declared.script.Event.TheVariants.{Call, Query, Retry, Deliver, Lose, Tick, Work, Stop, Notice, Show, Learn}
+use Rattle.kr_order.specs.View.{in_chain}
+use Rattle.kr_protocol.specs.Manager.{Manager, names, members_but, removes, announces}
 use Rattle.kr_order.specs.Held.{held_events, held_pairs}
 use Rattle.kr_world.specs.declared.shown.Shown.{Shown}
 use Rattle.kr_world.specs.declared.refusal.Refusal.{Refusal}
-use Rattle.kr_world.specs.declared.refusal.Refusal.TheVariants.{NoSuchClient, NoSuchServer, NoSuchPacket, Busy, NothingOpen, Lost, BagFull}
-use Rattle.kr_world.specs.World.{World, server_at, client_at, packet_at, is_marked, marked, with_packets, bytes_of, longest}
+use Rattle.kr_world.specs.declared.refusal.Refusal.TheVariants.{NoSuchClient, NoSuchServer, NoSuchPacket, Stopped, Busy, NothingOpen, Lost, LastServer, NotStopped, NotMember, BagFull}
+use Rattle.kr_world.specs.World.{World, server_at, client_at, packet_at, is_stopped, has_stopped, is_marked, marked, with_packets, bytes_of, longest}
 
 -- from this many packets on, and from this many bytes of packets on, no step that may send is taken
 abbrev pub bag_limit : ℕ
@@ -39,52 +40,84 @@ abbrev pub call_refusal : World → Option Client → Option Refusal
 call_refusal world None = Some NoSuchClient
 call_refusal world (Some client) = if is_busy client then Some Busy else if_full world
 
+-- a server that is to do something has to be there and must not have stopped; then what else refuses it
+abbrev pub server_refusal : World → ServerId → Option Server → Option Refusal → Option Refusal
+server_refusal world id None rest = Some NoSuchServer
+server_refusal world id (Some server) rest = if is_stopped world id then Some Stopped else rest
+
 -- a query is refused as a call is, but that the server has to be there too
-abbrev pub query_refusal : World → Option Client → Option Server → Option Refusal
-query_refusal world None server = Some NoSuchClient
-query_refusal world (Some client) None = Some NoSuchServer
-query_refusal world (Some client) (Some server) = call_refusal world (Some client)
+abbrev pub query_refusal : World → ServerId → Option Client → Option Server → Option Refusal
+query_refusal world id None server = Some NoSuchClient
+query_refusal world id (Some client) server = server_refusal world id server (call_refusal world (Some client))
 
 -- there has to be an open call to be tried again
-abbrev pub retry_refusal : World → Option Client → Option Server → Option Refusal
-retry_refusal world None server = Some NoSuchClient
-retry_refusal world (Some client) None = Some NoSuchServer
-retry_refusal world (Some client) (Some server) = if is_busy client then if_full world else Some NothingOpen
+abbrev pub retry_refusal : World → ServerId → Option Client → Option Server → Option Refusal
+retry_refusal world id None server = Some NoSuchClient
+retry_refusal world id (Some client) server = server_refusal world id server (if is_busy client then if_full world else Some NothingOpen)
 
--- a server that is to work or to tick has to be there
-abbrev pub turn_refusal : World → Option Server → Option Refusal
-turn_refusal world None = Some NoSuchServer
-turn_refusal world (Some server) = if_full world
+-- a server works and ticks where it is there and has not stopped
+abbrev pub turn_refusal : World → ServerId → Option Server → Option Refusal
+turn_refusal world id server = server_refusal world id server (if_full world)
 
--- a packet that was lost is not delivered
+-- a packet is not delivered to a server that has stopped, nor where it was lost
 abbrev pub deliver_refusal : World → ℕ → Option Packet → Option Refusal
 deliver_refusal world k None = Some NoSuchPacket
-deliver_refusal world k (Some packet) = if is_marked world.lost k then Some Lost else if_full world
+deliver_refusal world k (Some packet) =
+    if has_stopped world packet.to then Some Stopped else if is_marked world.lost k then Some Lost else if_full world
 
 -- nor is it lost again
 abbrev pub lose_refusal : World → ℕ → Option Packet → Option Refusal
 lose_refusal world k None = Some NoSuchPacket
 lose_refusal world k (Some packet) = if is_marked world.lost k then Some Lost else None
 
-abbrev pub show_refusal : Option Server → Option Refusal
-show_refusal None = Some NoSuchServer
-show_refusal (Some server) = None
-
--- a server's turn; the manager's has none yet
+-- the manager's turn, or a server's
 abbrev pub tick_refusal : World → Option ServerId → Option Refusal
 tick_refusal world None = if_full world
-tick_refusal world (Some server) = turn_refusal world (server_at world server)
+tick_refusal world (Some server) = turn_refusal world server (server_at world server)
+
+-- all of these have stopped
+abbrev pub have_stopped : World → List ServerId → Bool
+have_stopped world [] = true
+have_stopped world (id ∷ ids) = is_stopped world id && have_stopped world ids
+
+-- the server is in the chain of the current view, and all other members of it have stopped
+abbrev pub is_last_running : World → ServerId → Bool
+is_last_running world id =
+    in_chain world.manager.current id && have_stopped world (members_but world.manager.current.chain id)
+
+-- the last server that runs does not stop
+abbrev pub stop_refusal : World → ServerId → Option Server → Option Refusal
+stop_refusal world id None = Some NoSuchServer
+stop_refusal world id (Some server) =
+    if is_stopped world id then Some Stopped else if is_last_running world server.id then Some LastServer else None
+
+-- the manager hears of a server that has stopped and that its view names
+abbrev pub notice_refusal : World → ServerId → Option Server → Option Refusal
+notice_refusal world id None = Some NoSuchServer
+notice_refusal world id (Some server) =
+    if not (is_stopped world id) then Some NotStopped else if not (names world.manager.current server.id) then Some NotMember else if_full world
+
+-- a server that has stopped shows nothing
+abbrev pub show_refusal : World → ServerId → Option Server → Option Refusal
+show_refusal world id server = server_refusal world id server None
+
+abbrev pub learn_refusal : Option Client → Option Refusal
+learn_refusal None = Some NoSuchClient
+learn_refusal (Some client) = None
 
 -- why the event is refused in this world, if it is
 abbrev pub refusal_of : World → Event → Option Refusal
 refusal_of world (Call client command) = call_refusal world (client_at world client)
-refusal_of world (Query client server pairs) = query_refusal world (client_at world client) (server_at world server)
-refusal_of world (Retry client server) = retry_refusal world (client_at world client) (server_at world server)
+refusal_of world (Query client server pairs) = query_refusal world server (client_at world client) (server_at world server)
+refusal_of world (Retry client server) = retry_refusal world server (client_at world client) (server_at world server)
 refusal_of world (Deliver k) = deliver_refusal world k (packet_at world k)
 refusal_of world (Lose k) = lose_refusal world k (packet_at world k)
 refusal_of world (Tick who) = tick_refusal world who
-refusal_of world (Work server workers) = turn_refusal world (server_at world server)
-refusal_of world (Show server) = show_refusal (server_at world server)
+refusal_of world (Work server workers) = turn_refusal world server (server_at world server)
+refusal_of world (Stop server) = stop_refusal world server (server_at world server)
+refusal_of world (Notice server) = notice_refusal world server (server_at world server)
+refusal_of world (Show server) = show_refusal world server (server_at world server)
+refusal_of world (Learn client) = learn_refusal (client_at world client)
 
 -- a reply that a client was told in a step
 pub record Told : Type 0 where
@@ -156,7 +189,7 @@ arrives_at_server world id packet None = quiet world
 arrives_at_server world id packet (Some server) = server_reacts world id (server_takes server packet)
 
 abbrev pub arrives : World → nodes.Node → Packet → Outcome
-arrives world Manager packet = quiet world
+arrives world ToManager packet = quiet world
 arrives world (ToClient client) packet = arrives_at_client world client packet (client_at world client)
 arrives world (ToServer server) packet = arrives_at_server world server packet (server_at world server)
 
@@ -177,14 +210,27 @@ abbrev pub ticks_at : World → ServerId → Option Server → Outcome
 ticks_at world id None = quiet world
 ticks_at world id (Some server) = server_reacts world id (server_ticks server)
 
+-- the manager goes on, and tells all whom its current view names of it
+abbrev pub manager_tells : World → Manager → Outcome
+manager_tells world manager = quiet (with_packets (record world { manager = manager }) (announces manager.current))
+
 abbrev pub ticks : World → Option ServerId → Outcome
-ticks world None = quiet world
+ticks world None = manager_tells world world.manager
 ticks world (Some server) = ticks_at world server (server_at world server)
 
--- the number of a server's view, 0 where it has none
-abbrev pub view_number : Option View → ℕ
-view_number None = 0
-view_number (Some view) = view.number
+-- the server has stopped, for good
+abbrev pub stops : World → ServerId → Outcome
+stops world server = quiet (record world { stopped = marked world.stopped server.0 })
+
+-- the manager makes the next view, without the server
+abbrev pub notices : World → Option Server → Outcome
+notices world None = quiet world
+notices world (Some server) = manager_tells world (removes world.manager server.id)
+
+-- the client knows the current view
+abbrev pub learns_view : World → ClientId → Option Client → Outcome
+learns_view world id None = quiet world
+learns_view world id (Some client) = client_hears world id (unheard (learns client world.manager.current))
 
 -- what is shown of a server: of the order, what its acknowledged prefix holds
 abbrev pub shown_of : ServerId → Server → Shown
@@ -212,7 +258,10 @@ act world (Deliver k) = delivers world k (packet_at world k)
 act world (Lose k) = loses world k
 act world (Tick who) = ticks world who
 act world (Work server workers) = works world server (server_at world server)
+act world (Stop server) = stops world server
+act world (Notice server) = notices world (server_at world server)
 act world (Show server) = shows world server (server_at world server)
+act world (Learn client) = learns_view world client (client_at world client)
 
 abbrev pub unless : World → Option Refusal → Outcome → Outcome
 unless world None outcome = outcome

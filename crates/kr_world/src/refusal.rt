@@ -14,12 +14,20 @@ pub enum Refusal {
     NoSuchServer,
     /// No packet of that number was sent.
     NoSuchPacket,
+    /// The server, or the addressee of the packet, has stopped.
+    Stopped,
     /// The client has an open call.
     Busy,
     /// The client has no open call.
     NothingOpen,
     /// The packet was lost.
     Lost,
+    /// The server is in the chain of the current view, and all other members of it have stopped.
+    LastServer,
+    /// The server has not stopped.
+    NotStopped,
+    /// The current view does not name the server.
+    NotMember,
     /// Before the step 65,000 packets or more were sent, or packets of 268,435,456 bytes or more.
     BagFull,
 }
@@ -32,9 +40,13 @@ impl fmt::Display for Refusal {
             Refusal::NoSuchClient => write!(f, "NoSuchClient"),
             Refusal::NoSuchServer => write!(f, "NoSuchServer"),
             Refusal::NoSuchPacket => write!(f, "NoSuchPacket"),
+            Refusal::Stopped => write!(f, "Stopped"),
             Refusal::Busy => write!(f, "Busy"),
             Refusal::NothingOpen => write!(f, "NothingOpen"),
             Refusal::Lost => write!(f, "Lost"),
+            Refusal::LastServer => write!(f, "LastServer"),
+            Refusal::NotStopped => write!(f, "NotStopped"),
+            Refusal::NotMember => write!(f, "NotMember"),
             Refusal::BagFull => write!(f, "BagFull"),
         }
     }
