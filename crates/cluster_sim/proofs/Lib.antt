@@ -1,3 +1,4 @@
 mod PartsLemmas
+mod ViewLemmas
 mod LinesLemmas
 pub mod StartLemmas

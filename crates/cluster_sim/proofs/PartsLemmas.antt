@@ -1,5 +1,5 @@
 -- What a change of the parts makes of their world.
-use Rattle.std.proofs.Common.{◌≡◌, ℕ, ◌+◌, ◌-◌, ◌<◌, ◌≤◌, Bool, true, false, List, [], ◌∷◌, ◌++◌, length, drop, refl, sym, ap, ◌∙◌, subst, arith, inl, inr}
+use Rattle.std.proofs.Common.{zero, suc, ◌≡◌, ℕ, ◌+◌, ◌-◌, ◌<◌, ◌≤◌, Bool, true, false, List, [], ◌∷◌, ◌++◌, length, drop, refl, sym, ap, ◌∙◌, subst, arith, inl, inr}
 use Rattle.std.specs.Prelude.{Option, None, Some, Result, Ok, Err, IfOk, map, slice_get, slice_set, All}
 use Rattle.std.specs.Result.{OnOk}
 use Rattle.std.specs.Option.{option_map}
@@ -17,9 +17,11 @@ use Rattle.kr_order.specs.declared.history.Command.{Command}
 use Rattle.kr_order.specs.declared.history.Entry.{Entry}
 use Rattle.kr_order.specs.declared.history.DoneEntry.{DoneEntry}
 use Rattle.kr_order.specs.declared.message.Packet.{Packet}
-use Rattle.kr_order.specs.declared.view.View.{View}
+use Rattle.kr_order.specs.Prefix.{IsPrefix}
+use Rattle.kr_order.proofs.PrefixLemmas.{IsPrefix-length}
 use Rattle.kr_order.specs.Done.{done_from, done_of}
-use Rattle.kr_order.proofs.HistoryLemmas.{length-done_from}
+use Rattle.kr_order.proofs.HistoryLemmas.{length-done_from, done_from-append}
+use Rattle.kr_protocol.specs.Manager.{Manager, views_of}
 use Rattle.kr_protocol.specs.Reaction.{Reaction}
 use Rattle.kr_protocol.specs.Server.{Server, acknowledged, server_takes, server_works, server_ticks}
 use Rattle.kr_protocol.specs.Client.{Client, Hearing, begins, asks, retries, client_takes}
@@ -29,14 +31,15 @@ use Rattle.client_session.specs.Calls.{Opens, OpensQuery, Accepts, Heeds}
 use Rattle.chain_server.specs.declared.effects.Effects.{Effects}
 use Rattle.chain_server.specs.ServerStanding.{ServerStanding}
 use Rattle.chain_server.specs.Calls.{Heeds as ServerHeeds}
-use Rattle.kr_world.specs.World.{World, client_at, server_at, marked, with_packets, longest}
+use Rattle.kr_world.specs.World.{World, client_at, server_at, is_stopped, marked, with_packets, longest}
 use Rattle.kr_world.specs.declared.refusal.Refusal.TheVariants.{NoSuchClient}
-use Rattle.kr_world.specs.Step.{call_refusal, query_refusal, retry_refusal, told_to, parts_to, client_sends, client_hears, client_calls, client_asks, client_retries, server_reacts, arrives_at_client, arrives_at_server, works, ticks_at, step}
+use Rattle.kr_world.specs.Step.{if_full, turn_refusal, call_refusal, query_refusal, retry_refusal, told_to, parts_to, client_sends, client_hears, client_calls, client_asks, client_retries, server_reacts, arrives_at_client, arrives_at_server, works, ticks_at, step}
 use Rattle.kr_world.specs.Sound.{IsSound, IsSoundPacket}
 use Rattle.script_lang.specs.declared.script.Event.{Event}
 use Rattle.kr_world.proofs.SoundLemmas.{takes_within, work_within, tick_within, worlds_sound}
 use Rattle.kr_world.proofs.BagLemmas.{delivered_sound}
-use Rattle.kr_world.proofs.SeatLemmas.{IsSeated, own_of}
+use Rattle.kr_world.proofs.StepLemmas.{may_turn}
+use Rattle.kr_world.proofs.SeatLemmas.{IsSeated, seated, own_of}
 use Rattle.kr_world.proofs.BoundsLemmas.{IsWithinBounds}
 use Rattle.kr_world.proofs.ReactionLemmas.{HistoryGrows, grows_or_stays}
 use Rattle.cluster_sim.specs.declared.parts.Bag.{Bag}
@@ -54,11 +57,11 @@ server_there parts server node is =
     slice_get-map (λ (s : ServerStanding). s.server) parts.servers.items (server.0 - 1) ∙ ap (option_map (λ (s : ServerStanding). s.server)) is
 
 -- the parts with another client at an index
-clients_after : (parts : Parts) (clients : Vec ClientStanding Global) (i : ℕ) (node : ClientStanding) (after : Client) → clients.items ≡ slice_set parts.clients.items i node → node.client ≡ after → map (λ (c : ClientStanding). c.client) clients.items ≡ slice_set (world_of parts).clients i after
+pub clients_after : (parts : Parts) (clients : Vec ClientStanding Global) (i : ℕ) (node : ClientStanding) (after : Client) → clients.items ≡ slice_set parts.clients.items i node → node.client ≡ after → map (λ (c : ClientStanding). c.client) clients.items ≡ slice_set (world_of parts).clients i after
 clients_after parts clients i node after is same =
     ap (map (λ (c : ClientStanding). c.client)) is ∙ map-set (λ (c : ClientStanding). c.client) parts.clients.items i node ∙ ap (slice_set (world_of parts).clients i) same
 
-clients_whole : (old : List ClientStanding) (new : List ClientStanding) (i : ℕ) (node : ClientStanding) → new ≡ slice_set old i node → node.failed ≡ false → All (λ c. c.failed ≡ false) old → All (λ c. c.failed ≡ false) new
+pub clients_whole : (old : List ClientStanding) (new : List ClientStanding) (i : ℕ) (node : ClientStanding) → new ≡ slice_set old i node → node.failed ≡ false → All (λ c. c.failed ≡ false) old → All (λ c. c.failed ≡ false) new
 clients_whole old new i node is whole all =
     subst (All (λ c. c.failed ≡ false)) (sym is) (All-set (λ c. c.failed ≡ false) old i node whole all)
 
@@ -169,53 +172,84 @@ length-applied : (server : Server) → server.done ≤ length server.log → len
 length-applied server within =
     omega (arith, length-done_from [] (acknowledged server), length-take server.done server.log)
 
--- the journal once a server has gone on is that of the history
-notes : (history : List Entry) (journal committed : List DoneEntry) (servers : List Server) (old after : Server) → history ≡ history_of journal → journal ≡ done_of (history_of journal) → done_of (acknowledged after) ≡ done_of (acknowledged old) ++ committed → old.done ≤ length old.log → after.done ≤ length after.log → HistoryGrows history servers old after → noted journal old.done committed ≡ done_of (longest history servers)
-notes history journal committed servers old after is whole applied low high grows =
+-- what is done of a longer history
+done_more : (front more : List Entry) → done_of (front ++ more) ≡ done_of front ++ done_from front more
+done_more front more = done_from-append [] front more
+
+-- what stands behind a front of one list stands behind it in another way of writing it
+behind : (front more applied committed : List DoneEntry) → front ++ more ≡ applied ++ committed → length applied ≤ length front → more ≡ drop (length front - length applied) committed
+behind front more applied committed same le =
+    let first : drop (length front) (front ++ more) ≡ more = drop_front front more in
+    let second : drop (length front) (applied ++ committed) ≡ drop (length front - length applied) committed = drop_past applied committed (length front) le in
+    sym first ∙ ap (drop (length front)) same ∙ second
+  where
+    drop_front : (xs ys : List DoneEntry) → drop (length xs) (xs ++ ys) ≡ ys
+    drop_front [] ys = refl
+    drop_front (x ∷ xs) ys = drop_front xs ys
+
+    drop_past : (xs ys : List DoneEntry) (n : ℕ) → length xs ≤ n → drop n (xs ++ ys) ≡ drop (n - length xs) ys
+    drop_past [] ys n le = ap (λ m. drop m ys) (omega arith)
+    drop_past (x ∷ xs) ys zero le = absurd (omega arith)
+    drop_past (x ∷ xs) ys (suc n) le = drop_past xs ys n (omega arith) ∙ ap (λ m. drop m ys) (omega arith)
+
+-- the journal once a server has gone on is that of the history: what is new to it came behind
+notes : (world : World) (journal committed : List DoneEntry) (servers : List Server) (old after : Server) → world.history ≡ history_of journal → journal ≡ done_of (history_of journal) → done_of (acknowledged after) ≡ done_of (acknowledged old) ++ committed → old.done ≤ length old.log → after.done ≤ length after.log → IsPrefix (acknowledged old) world.history → HistoryGrows world servers after → noted journal old.done committed ≡ done_of (longest world.history servers)
+notes world journal committed servers old after is whole applied low high agreed grows =
+    let history = world.history in
+    let its : journal ≡ done_of history = whole ∙ ap done_of (sym is) in
+    let counted : length journal ≡ length history = ap length its ∙ length-done_from [] history in
+    let within = IsPrefix-length (acknowledged old) history agreed in
+    let before = length-applied old low in
+    let some : length (acknowledged old) ≡ old.done = sym (length-done_from [] (acknowledged old)) ∙ before in
     elim (cases_lt (length history) after.done) [
       | inl more ↦
-          let grown = grows.more more in
-          let same : journal ≡ done_of (acknowledged old) = whole ∙ ap done_of (sym is ∙ sym grown.1) in
-          let none : length journal - old.done ≡ 0 = omega (arith, ap length same, length-applied old low) in
-          ap (λ n. journal ++ drop n committed) none ∙ ap (λ j. j ++ committed) same ∙ sym applied ∙ ap done_of (sym grown.0)
+          let grown : longest history servers ≡ acknowledged after = grows.more more in
+          let front : IsPrefix history (acknowledged after) = subst (IsPrefix history) grown grows.front in
+          let split : done_of (acknowledged after) ≡ journal ++ done_from history front.more = ap done_of front.is ∙ done_more history front.more ∙ ap (λ j. j ++ done_from history front.more) (sym its) in
+          let news : done_from history front.more ≡ drop (length journal - length (done_of (acknowledged old))) committed = behind journal (done_from history front.more) (done_of (acknowledged old)) committed (sym split ∙ applied) (omega arith) in
+          ap (λ n. journal ++ drop (length journal - n) committed) (sym before) ∙ ap (λ ds. journal ++ ds) (sym news) ∙ sym split ∙ ap done_of (sym grown)
       | inr few ↦
           let kept = grows.kept few in
-          let counted : length journal ≡ length history = sym (ap length is ∙ length-map journal (λ (d : DoneEntry). d.entry)) in
           let all : length (done_of (acknowledged after)) ≡ length (done_of (acknowledged old)) + length committed = ap length applied ∙ length-append (done_of (acknowledged old)) committed in
-          let none : drop (length journal - old.done) committed ≡ [] = nil_from_length (drop (length journal - old.done) committed) (omega (arith, length-drop (length journal - old.done) committed, length-applied old low, length-applied after high)) in
-          ap (λ cs. journal ++ cs) none ∙ append-nil journal ∙ whole ∙ ap done_of (sym is ∙ sym kept)
+          let none : drop (length journal - old.done) committed ≡ [] = nil_from_length (drop (length journal - old.done) committed) (omega (arith, length-drop (length journal - old.done) committed, before, length-applied after high)) in
+          ap (λ cs. journal ++ cs) none ∙ append-nil journal ∙ its ∙ ap done_of (sym kept)
     ]
 
 -- what has become of the parts once a server has gone on
 pub record IsSettled (parts made : Parts) (server : ServerId) (old new : ServerStanding) (effects : Effects) : Type 0 where
   pub there : slice_get parts.servers.items (server.0 - 1) ≡ Some old
-  pub views : made.views ≡ parts.views
+  pub manager : made.manager ≡ parts.manager
   pub nodes : made.servers.items ≡ slice_set parts.servers.items (server.0 - 1) new
+  pub marks : made.stopped ≡ parts.stopped
   pub callers : made.clients ≡ parts.clients
   pub bag : IsSent parts.bag made.bag effects.packets
   pub journal : made.journal ≡ noted parts.journal old.server.done effects.committed
 
 -- a server's reaction: its node, the bag and the journal have changed
-pub server_reacted : (parts made : Parts) (server : ServerId) (old new : ServerStanding) (reaction : Reaction Server) (effects : Effects) → IsWhole parts → IsSettled parts made server old new effects → IsWithinBounds (world_of parts) old.server reaction → ServerHeeds old reaction effects new → Makes (server_reacts (world_of parts) server reaction) made nothing_noted
-server_reacted parts made server old new reaction effects whole settled bounds heeds =
+pub server_reacted : (parts made : Parts) (server : ServerId) (old new : ServerStanding) (reaction : Reaction Server) (effects : Effects) → IsWhole parts → is_stopped (world_of parts) server ≡ false → IsSettled parts made server old new effects → IsWithinBounds (world_of parts) old.server reaction → ServerHeeds old reaction effects new → Makes (server_reacts (world_of parts) server reaction) made nothing_noted
+server_reacted parts made server old new reaction effects whole runs settled bounds heeds =
     let i = server.0 - 1 in
     let w = world_of parts in
     let at : server_at w server ≡ Some old.server = server_there parts server old settled.there in
-    let seat : IsSeated w server old.server = record { at = at; sound = whole.sound } in
+    let seat : IsSeated w server old.server = seated w server old.server at runs whole.sound in
     let own = own_of w server old.server seat in
     let node_after : new.server ≡ reaction.after = ap (λ (s : ServerStanding). s.server) heeds.after in
     let grows = grows_or_stays w server old.server reaction seat bounds in
     let ss = slice_set w.servers i reaction.after in
-    let down : made.journal ≡ done_of (longest w.history ss) = settled.journal ∙ notes w.history parts.journal effects.committed ss old.server reaction.after refl whole.journal heeds.committed own.done bounds.done grows in
+    let down : made.journal ≡ done_of (longest w.history ss) = settled.journal ∙ notes w parts.journal effects.committed ss old.server reaction.after refl whole.journal heeds.committed own.done bounds.done own.agreed grows in
     let history : history_of made.journal ≡ longest w.history ss = ap history_of down ∙ history_of-done_of (longest w.history ss) in
     let nodes : map (λ (s : ServerStanding). s.server) made.servers.items ≡ ss = servers_after parts made.servers.items i new reaction.after settled.nodes node_after in
     let clients : map (λ (c : ClientStanding). c.client) made.clients.items ≡ w.clients = ap (λ (cs : Vec ClientStanding Global). map (λ (c : ClientStanding). c.client) cs.items) settled.callers in
-    let f : List View → List Server → List Client → List Entry → World = λ vs ns cs h. record { views = vs; servers = ns; clients = cs; bag = made.bag.packets; lost = made.bag.lost.items; delivered = made.bag.delivered.items; history = h } in
-    let changed : world_of made ≡ f parts.views ss w.clients (longest w.history ss) = ap (λ vs. f vs (map (λ (s : ServerStanding). s.server) made.servers.items) (map (λ (c : ClientStanding). c.client) made.clients.items) (history_of made.journal)) settled.views ∙ ap (λ ns. f parts.views ns (map (λ (c : ClientStanding). c.client) made.clients.items) (history_of made.journal)) nodes ∙ ap (λ cs. f parts.views ss cs (history_of made.journal)) clients ∙ ap (f parts.views ss w.clients) history in
+    let f : Manager → Vec Bool Global → List Server → List Client → List Entry → World = λ m marks ns cs h. record { manager = m; servers = ns; stopped = marks.items; clients = cs; bag = made.bag.packets; lost = made.bag.lost.items; delivered = made.bag.delivered.items; history = h } in
+    let its_nodes = map (λ (s : ServerStanding). s.server) made.servers.items in
+    let its_clients = map (λ (c : ClientStanding). c.client) made.clients.items in
+    let its_history = history_of made.journal in
+    let changed : world_of made ≡ f parts.manager parts.stopped ss w.clients (longest w.history ss) =
+    ap (λ m. f m made.stopped its_nodes its_clients its_history) settled.manager ∙ ap (λ marks. f parts.manager marks its_nodes its_clients its_history) settled.marks ∙ ap (λ ns. f parts.manager parts.stopped ns its_clients its_history) nodes ∙ ap (λ cs. f parts.manager parts.stopped ss cs its_history) clients ∙ ap (f parts.manager parts.stopped ss w.clients) history in
     let g : List Packet → List Bool → List Bool → World = λ ps ls ds. record w { servers = ss; history = longest w.history ss; bag = ps; lost = ls; delivered = ds } in
     let sent = settled.bag in
     let packets = effects.packets in
-    let bags : f parts.views ss w.clients (longest w.history ss) ≡ with_packets (record w { servers = ss; history = longest w.history ss }) packets = ap (λ ps. g ps made.bag.lost.items made.bag.delivered.items) sent.packets_are ∙ ap (λ ls. g (w.bag ++ packets) ls made.bag.delivered.items) sent.lost ∙ ap (g (w.bag ++ packets) (w.lost ++ map (λ packet. false) packets)) sent.delivered in
+    let bags : f parts.manager parts.stopped ss w.clients (longest w.history ss) ≡ with_packets (record w { servers = ss; history = longest w.history ss }) packets = ap (λ ps. g ps made.bag.lost.items made.bag.delivered.items) sent.packets_are ∙ ap (λ ls. g (w.bag ++ packets) ls made.bag.delivered.items) sent.lost ∙ ap (g (w.bag ++ packets) (w.lost ++ map (λ packet. false) packets)) sent.delivered in
     record {
       after = changed ∙ bags ∙ ap (with_packets (record w { servers = ss; history = longest w.history ss })) heeds.sent;
       told = refl;
@@ -229,25 +263,27 @@ server_reacted parts made server old new reaction effects whole settled bounds h
     }
 
 -- a server takes a packet
-pub server_took : (parts made : Parts) (server : ServerId) (old new : ServerStanding) (packet : Packet) (effects : Effects) → IsWhole parts → IsSettled parts made server old new effects → IsSoundPacket (world_of parts).servers packet → ServerHeeds old (server_takes old.server packet) effects new → Makes (arrives_at_server (world_of parts) server packet (server_at (world_of parts) server)) made nothing_noted
-server_took parts made server old new packet effects whole settled said heeds =
+pub server_took : (parts made : Parts) (server : ServerId) (old new : ServerStanding) (packet : Packet) (effects : Effects) → IsWhole parts → is_stopped (world_of parts) server ≡ false → IsSettled parts made server old new effects → IsSoundPacket (views_of parts.manager) (world_of parts).servers packet → ServerHeeds old (server_takes old.server packet) effects new → Makes (arrives_at_server (world_of parts) server packet (server_at (world_of parts) server)) made nothing_noted
+server_took parts made server old new packet effects whole runs settled said heeds =
     let at = server_there parts server old settled.there in
-    let bounds = takes_within (world_of parts) server packet old.server (record { at = at; sound = whole.sound }) said in
-    subst (λ found. Makes (arrives_at_server (world_of parts) server packet found) made nothing_noted) (sym at) (server_reacted parts made server old new (server_takes old.server packet) effects whole settled bounds heeds)
+    let bounds = takes_within (world_of parts) server packet old.server (seated (world_of parts) server old.server at runs whole.sound) said in
+    subst (λ found. Makes (arrives_at_server (world_of parts) server packet found) made nothing_noted) (sym at) (server_reacted parts made server old new (server_takes old.server packet) effects whole runs settled bounds heeds)
 
 -- a server works
-pub server_worked : (parts made : Parts) (server : ServerId) (old new : ServerStanding) (effects : Effects) → IsWhole parts → IsSettled parts made server old new effects → ServerHeeds old (server_works old.server) effects new → Makes (works (world_of parts) server (server_at (world_of parts) server)) made nothing_noted
-server_worked parts made server old new effects whole settled heeds =
+pub server_worked : (parts made : Parts) (server : ServerId) (old new : ServerStanding) (effects : Effects) → IsWhole parts → turn_refusal (world_of parts) server (server_at (world_of parts) server) ≡ None → IsSettled parts made server old new effects → ServerHeeds old (server_works old.server) effects new → Makes (works (world_of parts) server (server_at (world_of parts) server)) made nothing_noted
+server_worked parts made server old new effects whole none settled heeds =
     let at = server_there parts server old settled.there in
-    let bounds = work_within (world_of parts) server old.server (record { at = at; sound = whole.sound }) in
-    subst (λ found. Makes (works (world_of parts) server found) made nothing_noted) (sym at) (server_reacted parts made server old new (server_works old.server) effects whole settled bounds heeds)
+    let runs = (may_turn (world_of parts) server (server_at (world_of parts) server) (if_full (world_of parts)) none).runs in
+    let bounds = work_within (world_of parts) server old.server (seated (world_of parts) server old.server at runs whole.sound) in
+    subst (λ found. Makes (works (world_of parts) server found) made nothing_noted) (sym at) (server_reacted parts made server old new (server_works old.server) effects whole runs settled bounds heeds)
 
 -- a server ticks
-pub server_ticked : (parts made : Parts) (server : ServerId) (old new : ServerStanding) (effects : Effects) → IsWhole parts → IsSettled parts made server old new effects → ServerHeeds old (server_ticks old.server) effects new → Makes (ticks_at (world_of parts) server (server_at (world_of parts) server)) made nothing_noted
-server_ticked parts made server old new effects whole settled heeds =
+pub server_ticked : (parts made : Parts) (server : ServerId) (old new : ServerStanding) (effects : Effects) → IsWhole parts → turn_refusal (world_of parts) server (server_at (world_of parts) server) ≡ None → IsSettled parts made server old new effects → ServerHeeds old (server_ticks old.server) effects new → Makes (ticks_at (world_of parts) server (server_at (world_of parts) server)) made nothing_noted
+server_ticked parts made server old new effects whole none settled heeds =
     let at = server_there parts server old settled.there in
-    let bounds = tick_within (world_of parts) server old.server (record { at = at; sound = whole.sound }) in
-    subst (λ found. Makes (ticks_at (world_of parts) server found) made nothing_noted) (sym at) (server_reacted parts made server old new (server_ticks old.server) effects whole settled bounds heeds)
+    let runs = (may_turn (world_of parts) server (server_at (world_of parts) server) (if_full (world_of parts)) none).runs in
+    let bounds = tick_within (world_of parts) server old.server (seated (world_of parts) server old.server at runs whole.sound) in
+    subst (λ found. Makes (ticks_at (world_of parts) server found) made nothing_noted) (sym at) (server_reacted parts made server old new (server_ticks old.server) effects whole runs settled bounds heeds)
 
 -- the world of parts in whose bag a packet was marked as delivered
 pub delivered_after : (parts : Parts) (bag : Bag) (k : ℕ) → bag.packets ≡ parts.bag.packets → bag.lost ≡ parts.bag.lost → bag.delivered.items ≡ slice_set parts.bag.delivered.items (k - 1) true → world_of (record parts { bag = bag }) ≡ record (world_of parts) { delivered = marked (world_of parts).delivered k }
@@ -270,7 +306,7 @@ delivered_whole parts bag k whole packets lost delivered bytes =
     still_counted bag packets bytes counted = rw (packets, bytes) counted
 
 -- a client of the world is in the parts
-client_within : (parts : Parts) (client : ClientId) (node : Client) → client_at (world_of parts) client ≡ Some node → client.0 - 1 < length parts.clients.items
+pub client_within : (parts : Parts) (client : ClientId) (node : Client) → client_at (world_of parts) client ≡ Some node → client.0 - 1 < length parts.clients.items
 client_within parts client node is =
     omega (arith, slice_get_within (world_of parts).clients (client.0 - 1) node is, length-map parts.clients.items (λ (c : ClientStanding). c.client))
 
@@ -280,14 +316,14 @@ caller_there parts client None is none = absurd (none-some NoSuchClient (sym non
 caller_there parts client (Some node) is none = client_within parts client node is
 
 -- so is one whose query is not refused
-pub asker_there : (parts : Parts) (client : ClientId) (found : Option Client) (other : Option Server) → client_at (world_of parts) client ≡ found → query_refusal (world_of parts) found other ≡ None → client.0 - 1 < length parts.clients.items
-asker_there parts client None other is none = absurd (none-some NoSuchClient (sym none))
-asker_there parts client (Some node) other is none = client_within parts client node is
+pub asker_there : (parts : Parts) (client : ClientId) (server : ServerId) (found : Option Client) (other : Option Server) → client_at (world_of parts) client ≡ found → query_refusal (world_of parts) server found other ≡ None → client.0 - 1 < length parts.clients.items
+asker_there parts client server None other is none = absurd (none-some NoSuchClient (sym none))
+asker_there parts client server (Some node) other is none = client_within parts client node is
 
 -- and one whose call may be tried again
-pub retrier_there : (parts : Parts) (client : ClientId) (found : Option Client) (other : Option Server) → client_at (world_of parts) client ≡ found → retry_refusal (world_of parts) found other ≡ None → client.0 - 1 < length parts.clients.items
-retrier_there parts client None other is none = absurd (none-some NoSuchClient (sym none))
-retrier_there parts client (Some node) other is none = client_within parts client node is
+pub retrier_there : (parts : Parts) (client : ClientId) (server : ServerId) (found : Option Client) (other : Option Server) → client_at (world_of parts) client ≡ found → retry_refusal (world_of parts) server found other ≡ None → client.0 - 1 < length parts.clients.items
+retrier_there parts client server None other is none = absurd (none-some NoSuchClient (sym none))
+retrier_there parts client server (Some node) other is none = client_within parts client node is
 
 -- after a step of whole parts the parts are whole
 pub whole_after : (old new : Parts) (event : Event) (noting : Noted) → IsWhole old → Makes (step (world_of old) event) new noting → IsWhole new

@@ -3,10 +3,10 @@ use Rattle.std.proofs.Common.{suc, ◌≡◌, ℕ, ◌+◌, ◌≤◌, Bool, fal
 use Rattle.std.specs.Prelude.{All}
 use Rattle.std.proofs.lemmas.List.{map-append}
 use Rattle.std.proofs.lemmas.List.Elements.{All-map}
-use Rattle.kr_order.specs.declared.view.View.{View}
 use Rattle.kr_order.specs.View.{first_view}
 use Rattle.kr_order.specs.Numbers.{numbers_to}
 use Rattle.kr_order.specs.Done.{done_of}
+use Rattle.kr_protocol.specs.Manager.{Manager, new_manager}
 use Rattle.kr_protocol.specs.Server.{Server, founder}
 use Rattle.kr_protocol.specs.Client.{Client, new_client}
 use Rattle.chain_server.specs.ServerStanding.{ServerStanding}
@@ -40,7 +40,8 @@ map_map f g (x ∷ xs) = ap (λ ys. f (g x) ∷ ys) (map_map f g xs)
 
 -- the parts of a cluster before its first step
 pub record IsStart (servers clients : ℕ) (parts : Parts) : Type 0 where
-  pub views : parts.views ≡ first_view servers ∷ []
+  pub manager : parts.manager ≡ new_manager servers
+  pub marks : parts.stopped.items ≡ map (λ n. false) (numbers_to servers)
   pub nodes : parts.servers.items ≡ new_servers servers
   pub callers : parts.clients.items ≡ new_callers servers clients
   pub packets : parts.bag.packets ≡ []
@@ -50,7 +51,7 @@ pub record IsStart (servers clients : ℕ) (parts : Parts) : Type 0 where
 
 pub started : (servers clients : ℕ) (parts : Parts) → IsStart servers clients parts → world_of parts ≡ first_world servers clients
 started servers clients parts start =
-    let views = start.views in
+    let manager = start.manager in
     let packets = start.packets in
     let lost = start.lost in
     let delivered = start.delivered in
@@ -58,16 +59,16 @@ started servers clients parts start =
     let ss : map (λ (s : ServerStanding). s.server) parts.servers.items ≡ map (λ m. founder (first_view servers) (record { 0 = m })) (numbers_to servers) = ap (map (λ (s : ServerStanding). s.server)) start.nodes ∙ map_map (λ (s : ServerStanding). s.server) (λ m. record { server = founder (first_view servers) (record { 0 = m }); failed = false }) (numbers_to servers) in
     let cs : map (λ (c : ClientStanding). c.client) parts.clients.items ≡ map (λ m. new_client (first_view servers) (record { 0 = m })) (numbers_to clients) = ap (map (λ (c : ClientStanding). c.client)) start.callers ∙ map_map (λ (c : ClientStanding). c.client) (λ m. record { client = new_client (first_view servers) (record { 0 = m }); failed = false }) (numbers_to clients) in
     let w = first_world servers clients in
-    let f : List View → List Server → List Client → World = λ vs ns cs. record (world_of parts) { views = vs; servers = ns; clients = cs } in
+    let f : Manager → List Bool → List Server → List Client → World = λ m marks ns cs. record (world_of parts) { manager = m; stopped = marks; servers = ns; clients = cs } in
     let g : List Packet → List Bool → List Bool → List Entry → World = λ ps ls ds h. record w { bag = ps; lost = ls; delivered = ds; history = h } in
-    ap (λ vs. f vs (world_of parts).servers (world_of parts).clients) views ∙ ap (λ ns. f w.views ns (world_of parts).clients) ss ∙ ap (f w.views w.servers) cs ∙ ap (λ ps. g ps (world_of parts).lost (world_of parts).delivered (world_of parts).history) packets ∙ ap (λ ls. g [] ls (world_of parts).delivered (world_of parts).history) lost ∙ ap (λ ds. g [] [] ds (world_of parts).history) delivered ∙ ap (g [] [] []) journal
+    ap (λ m. f m (world_of parts).stopped (world_of parts).servers (world_of parts).clients) manager ∙ ap (λ marks. f w.manager marks (world_of parts).servers (world_of parts).clients) start.marks ∙ ap (λ ns. f w.manager w.stopped ns (world_of parts).clients) ss ∙ ap (f w.manager w.stopped w.servers) cs ∙ ap (λ ps. g ps (world_of parts).lost (world_of parts).delivered (world_of parts).history) packets ∙ ap (λ ls. g [] ls (world_of parts).delivered (world_of parts).history) lost ∙ ap (λ ds. g [] [] ds (world_of parts).history) delivered ∙ ap (g [] [] []) journal
 
-pub started_whole : (servers clients : ℕ) (parts : Parts) → 1 ≤ servers → IsCounted parts.bag → IsStart servers clients parts → IsWhole parts
-started_whole servers clients parts some counted start =
+pub started_whole : (servers clients : ℕ) (parts : Parts) → 1 ≤ servers → servers ≤ 8 → IsCounted parts.bag → IsStart servers clients parts → IsWhole parts
+started_whole servers clients parts some few counted start =
     record {
       servers = subst (All (λ s. s.failed ≡ false)) (sym start.nodes) (All-map (λ (s : ServerStanding). s.failed ≡ false) (λ m. record { server = founder (first_view servers) (record { 0 = m }); failed = false }) (numbers_to servers) (all_of (λ m. false ≡ false) (λ m. refl) (numbers_to servers)));
       clients = subst (All (λ c. c.failed ≡ false)) (sym start.callers) (All-map (λ (c : ClientStanding). c.failed ≡ false) (λ m. record { client = new_client (first_view servers) (record { 0 = m }); failed = false }) (numbers_to clients) (all_of (λ m. false ≡ false) (λ m. refl) (numbers_to clients)));
       journal = start.journal ∙ ap (λ j. done_of (history_of j)) (sym start.journal);
       counted = counted;
-      sound = subst IsSound (sym (started servers clients parts start)) (worlds_sound.first servers clients some);
+      sound = subst IsSound (sym (started servers clients parts start)) (worlds_sound.first servers clients some (omega arith));
     }

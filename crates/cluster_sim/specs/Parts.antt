@@ -24,8 +24,9 @@ history_of journal = map (λ done. done.entry) journal
 abbrev pub world_of : Parts → World
 world_of parts =
     record {
-      views = parts.views;
+      manager = parts.manager;
       servers = map (λ s. s.server) parts.servers.items;
+      stopped = parts.stopped.items;
       clients = map (λ c. c.client) parts.clients.items;
       bag = parts.bag.packets;
       lost = parts.bag.lost.items;

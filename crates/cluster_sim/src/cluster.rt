@@ -10,9 +10,10 @@ ghost use Rattle.cluster_sim.specs.Steps.{Steps, StepsOnto};
 
 use crate::lines::{Lines, end_lines, put_step};
 use crate::parts::{Bag, Parts};
-use crate::start::{callers, first_view, founders};
+use crate::start::{callers, founders, running};
 use crate::step::step;
-use kr_order::{DoneList, Listed, NoMemory};
+use chain_manager::Manager;
+use kr_order::{DoneList, NoMemory};
 use script_lang::Event;
 use std::alloc::Global;
 use std::marker::Model;
@@ -46,16 +47,16 @@ impl Cluster {
         requires { IsSize servers clients }
         ensures { IfOk result (λ cluster. cluster ≡ record { world = first_world servers clients; failed = false }) }
     {
-        let view = first_view(alloc, servers)?;
-        let nodes = founders(alloc, &view, servers)?;
-        let callers = callers(alloc, &view, clients)?;
-        let mut views = Listed::new(alloc);
-        views.push(view)?;
+        let manager = Manager::new(alloc, servers)?;
+        let nodes = founders(alloc, manager.current(), servers)?;
+        let callers = callers(alloc, manager.current(), clients)?;
+        let stopped = running(alloc, servers)?;
         Ok(Cluster {
             alloc,
             parts: Parts {
-                views,
+                manager,
                 servers: nodes,
+                stopped,
                 clients: callers,
                 bag: Bag::new(alloc),
                 journal: DoneList::new(alloc),

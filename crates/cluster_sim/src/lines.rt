@@ -193,9 +193,13 @@ fn word_of(why: Refusal) -> &'static [u8]
         Refusal::NoSuchClient => b"NoSuchClient",
         Refusal::NoSuchServer => b"NoSuchServer",
         Refusal::NoSuchPacket => b"NoSuchPacket",
+        Refusal::Stopped => b"Stopped",
         Refusal::Busy => b"Busy",
         Refusal::NothingOpen => b"NothingOpen",
         Refusal::Lost => b"Lost",
+        Refusal::LastServer => b"LastServer",
+        Refusal::NotStopped => b"NotStopped",
+        Refusal::NotMember => b"NotMember",
         Refusal::BagFull => b"BagFull",
     }
 }

@@ -1,4 +1,4 @@
-//! The parts of a cluster: the manager's views, the nodes, every packet that was sent, and the journal of the
+//! The parts of a cluster: the manager, the nodes, every packet that was sent, and the journal of the
 //! history.
 
 ghost use Rattle.std.specs.Prelude.{◌≡◌, ◌+◌, ◌||◌, nat_le, ℕ, false, [], ◌∷◌, ◌++◌, length, OnOk, None};
@@ -7,9 +7,10 @@ ghost use Rattle.kr_world.specs.Step.{bag_limit, byte_limit};
 ghost use Rattle.cluster_sim.specs.Parts.{noted, counted, IsCounted, IsSent};
 ghost use Rattle.kr_order.specs.Size.{packet_size};
 
+use chain_manager::Manager;
 use chain_server::Server;
 use client_session::Client;
-use kr_order::{ClientId, Copied, DoneList, Listed, NoMemory, Packet, Packets, ToldReply, View};
+use kr_order::{ClientId, Copied, DoneList, NoMemory, Packet, Packets, ToldReply};
 use kr_world::{Refusal, Shown};
 use order_state::PlainBoard;
 use std::alloc::Global;
@@ -27,8 +28,10 @@ pub struct Bag {
 /// The parts of a cluster.
 #[derive(Drop)]
 pub struct Parts {
-    pub views: Listed<View>,
+    pub manager: Manager,
     pub servers: Vec<Server<PlainBoard>>,
+    /// Beside each server whether it has stopped.
+    pub stopped: Vec<bool>,
     pub clients: Vec<Client>,
     pub bag: Bag,
     pub journal: DoneList,

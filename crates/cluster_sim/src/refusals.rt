@@ -1,12 +1,13 @@
 //! Why a step is refused.
 
 ghost use Rattle.std.specs.Prelude.{◌≡◌, ◌-◌, slice_index_or, false};
-ghost use Rattle.kr_world.specs.World.{client_at, server_at, packet_at, is_marked};
-ghost use Rattle.kr_world.specs.Step.{if_full, refusal_of, call_refusal, query_refusal, retry_refusal, turn_refusal, tick_refusal, deliver_refusal, lose_refusal, show_refusal};
+ghost use Rattle.kr_protocol.specs.Manager.{members_but};
+ghost use Rattle.kr_world.specs.World.{client_at, server_at, packet_at, is_marked, is_stopped, has_stopped};
+ghost use Rattle.kr_world.specs.Step.{if_full, refusal_of, call_refusal, server_refusal, query_refusal, retry_refusal, turn_refusal, tick_refusal, deliver_refusal, lose_refusal, have_stopped, is_last_running, stop_refusal, notice_refusal, show_refusal, learn_refusal};
 ghost use Rattle.cluster_sim.specs.Parts.{world_of, IsCounted};
 
 use crate::parts::Parts;
-use kr_order::{ClientId, ServerId};
+use kr_order::{ClientId, Node, ServerId};
 use kr_world::Refusal;
 use script_lang::Event;
 
@@ -44,51 +45,68 @@ fn call_refusal(parts: &Parts, client: ClientId) -> Option<Refusal>
     }
 }
 
+// Whether the server has stopped.
+fn is_stopped(parts: &Parts, server: ServerId) -> bool
+    ensures { result ≡ is_stopped (world_of parts.now) server }
+{
+    match parts.stopped.get(index_of(u64::from(server.0))) {
+        None => false,
+        Some(mark) => *mark,
+    }
+}
+
+// Why a server that is to do something is refused: it has to be there and must not have stopped; then what else refuses it.
+fn server_refusal(parts: &Parts, server: ServerId, rest: Option<Refusal>) -> Option<Refusal>
+    ensures { result ≡ server_refusal (world_of parts.now) server (server_at (world_of parts.now) server) rest }
+{
+    if parts.servers.get(index_of(u64::from(server.0))).is_none() {
+        return Some(Refusal::NoSuchServer);
+    }
+    if is_stopped(parts, server) {
+        Some(Refusal::Stopped)
+    } else {
+        rest
+    }
+}
+
 // Why a query of the client at the server is refused.
 fn query_refusal(parts: &Parts, client: ClientId, server: ServerId) -> Option<Refusal>
     requires { IsCounted parts.now.bag }
-    ensures { result ≡ query_refusal (world_of parts.now) (client_at (world_of parts.now) client) (server_at (world_of parts.now) server) }
+    ensures { result ≡ query_refusal (world_of parts.now) server (client_at (world_of parts.now) client) (server_at (world_of parts.now) server) }
 {
     let Some(node) = parts.clients.get(index_of(u64::from(client.0))) else {
         return Some(Refusal::NoSuchClient);
     };
-    if parts.servers.get(index_of(u64::from(server.0))).is_none() {
-        return Some(Refusal::NoSuchServer);
-    }
-    if node.is_busy() {
+    let rest = if node.is_busy() {
         Some(Refusal::Busy)
     } else {
         if_full(parts)
-    }
+    };
+    server_refusal(parts, server, rest)
 }
 
 // Why the client's open call is not tried again at the server.
 fn retry_refusal(parts: &Parts, client: ClientId, server: ServerId) -> Option<Refusal>
     requires { IsCounted parts.now.bag }
-    ensures { result ≡ retry_refusal (world_of parts.now) (client_at (world_of parts.now) client) (server_at (world_of parts.now) server) }
+    ensures { result ≡ retry_refusal (world_of parts.now) server (client_at (world_of parts.now) client) (server_at (world_of parts.now) server) }
 {
     let Some(node) = parts.clients.get(index_of(u64::from(client.0))) else {
         return Some(Refusal::NoSuchClient);
     };
-    if parts.servers.get(index_of(u64::from(server.0))).is_none() {
-        return Some(Refusal::NoSuchServer);
-    }
-    if node.is_busy() {
+    let rest = if node.is_busy() {
         if_full(parts)
     } else {
         Some(Refusal::NothingOpen)
-    }
+    };
+    server_refusal(parts, server, rest)
 }
 
 // Why the server's turn, to work or to tick, is refused.
 fn turn_refusal(parts: &Parts, server: ServerId) -> Option<Refusal>
     requires { IsCounted parts.now.bag }
-    ensures { result ≡ turn_refusal (world_of parts.now) (server_at (world_of parts.now) server) }
+    ensures { result ≡ turn_refusal (world_of parts.now) server (server_at (world_of parts.now) server) }
 {
-    match parts.servers.get(index_of(u64::from(server.0))) {
-        None => Some(Refusal::NoSuchServer),
-        Some(_) => if_full(parts),
-    }
+    server_refusal(parts, server, if_full(parts))
 }
 
 // Why a tick is refused.
@@ -99,6 +117,70 @@ fn tick_refusal(parts: &Parts, who: Option<ServerId>) -> Option<Refusal>
     match who {
         None => if_full(parts),
         Some(server) => turn_refusal(parts, server),
+    }
+}
+
+// Whether all of these but one have stopped.
+fn others_stopped(parts: &Parts, chain: &[ServerId], id: ServerId) -> bool
+    ensures { result ≡ have_stopped (world_of parts.now) (members_but chain.now id) }
+{
+    let mut all = true;
+    for member in chain {
+        all = all && (member.0 == id.0 || is_stopped(parts, *member));
+    }
+    all
+}
+
+// Whether the server is in the chain of the current view, and all other members of it have stopped.
+fn is_last_running(parts: &Parts, id: ServerId) -> bool
+    ensures { result ≡ is_last_running (world_of parts.now) id }
+{
+    let view = parts.manager.current();
+    view.in_chain(id) && others_stopped(parts, view.chain.as_slice(), id)
+}
+
+// Why the server does not stop.
+fn stop_refusal(parts: &Parts, server: ServerId) -> Option<Refusal>
+    ensures { result ≡ stop_refusal (world_of parts.now) server (server_at (world_of parts.now) server) }
+{
+    let Some(node) = parts.servers.get(index_of(u64::from(server.0))) else {
+        return Some(Refusal::NoSuchServer);
+    };
+    if is_stopped(parts, server) {
+        return Some(Refusal::Stopped);
+    }
+    if is_last_running(parts, node.id()) {
+        Some(Refusal::LastServer)
+    } else {
+        None
+    }
+}
+
+// Why the manager does not hear of the server's stop.
+fn notice_refusal(parts: &Parts, server: ServerId) -> Option<Refusal>
+    requires { IsCounted parts.now.bag }
+    ensures { result ≡ notice_refusal (world_of parts.now) server (server_at (world_of parts.now) server) }
+{
+    let Some(node) = parts.servers.get(index_of(u64::from(server.0))) else {
+        return Some(Refusal::NoSuchServer);
+    };
+    if !is_stopped(parts, server) {
+        return Some(Refusal::NotStopped);
+    }
+    if parts.manager.names(node.id()) {
+        if_full(parts)
+    } else {
+        Some(Refusal::NotMember)
+    }
+}
+
+// Whether the node has stopped; only a server may have.
+fn has_stopped(parts: &Parts, node: Node) -> bool
+    ensures { result ≡ has_stopped (world_of parts.now) node }
+{
+    match node {
+        Node::Manager | Node::Client(_) => false,
+        Node::Server(server) => is_stopped(parts, server),
     }
 }
 
@@ -117,8 +199,11 @@ fn deliver_refusal(parts: &Parts, k: u64) -> Option<Refusal>
     requires { IsCounted parts.now.bag }
     ensures { result ≡ deliver_refusal (world_of parts.now) k (packet_at (world_of parts.now) k) }
 {
-    if parts.bag.packets.get(index_of(k)).is_none() {
+    let Some(packet) = parts.bag.packets.get(index_of(k)) else {
         return Some(Refusal::NoSuchPacket);
+    };
+    if has_stopped(parts, packet.to) {
+        return Some(Refusal::Stopped);
     }
     if is_lost(parts, k) {
         Some(Refusal::Lost)
@@ -143,10 +228,17 @@ fn lose_refusal(parts: &Parts, k: u64) -> Option<Refusal>
 
 // Why a server is not shown.
 fn show_refusal(parts: &Parts, server: ServerId) -> Option<Refusal>
-    ensures { result ≡ show_refusal (server_at (world_of parts.now) server) }
+    ensures { result ≡ show_refusal (world_of parts.now) server (server_at (world_of parts.now) server) }
 {
-    match parts.servers.get(index_of(u64::from(server.0))) {
-        None => Some(Refusal::NoSuchServer),
+    server_refusal(parts, server, None)
+}
+
+// Why a client does not learn the view.
+fn learn_refusal(parts: &Parts, client: ClientId) -> Option<Refusal>
+    ensures { result ≡ learn_refusal (client_at (world_of parts.now) client) }
+{
+    match parts.clients.get(index_of(u64::from(client.0))) {
+        None => Some(Refusal::NoSuchClient),
         Some(_) => None,
     }
 }
@@ -164,6 +256,9 @@ pub fn refusal(parts: &Parts, event: &Event) -> Option<Refusal>
         Event::Lose(k) => lose_refusal(parts, *k),
         Event::Tick(who) => tick_refusal(parts, *who),
         Event::Work { server, .. } => turn_refusal(parts, *server),
+        Event::Stop(server) => stop_refusal(parts, *server),
+        Event::Notice(server) => notice_refusal(parts, *server),
         Event::Show(server) => show_refusal(parts, *server),
+        Event::Learn(client) => learn_refusal(parts, *client),
     }
 }

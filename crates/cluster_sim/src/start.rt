@@ -1,30 +1,25 @@
 //! The nodes that a cluster begins with.
 
 ghost use Rattle.std.specs.Prelude.{◌≡◌, map, false, IfOk};
-ghost use Rattle.kr_order.specs.View.{first_view};
 ghost use Rattle.kr_order.specs.Numbers.{numbers_to};
 ghost use Rattle.kr_protocol.specs.Server.{founder};
 ghost use Rattle.kr_protocol.specs.Client.{new_client};
 
 use chain_server::Server;
 use client_session::Client;
-use kr_order::{ClientId, Copied, NoMemory, ServerId, Servers, View};
+use kr_order::{ClientId, Copied, NoMemory, ServerId, View};
 use order_state::PlainBoard;
 use std::alloc::Global;
 
-/// The view of so many servers, in the order of their numbers.
-pub fn first_view(alloc: Global, servers: u32) -> Result<View, NoMemory>
-    ensures { IfOk result (λ view. view ≡ first_view servers) }
+/// A mark for each of so many servers, of which none has stopped.
+pub fn running(alloc: Global, servers: u32) -> Result<Vec<bool>, NoMemory>
+    ensures { IfOk result (λ marks. marks.items ≡ map (λ n. false) (numbers_to servers)) }
 {
-    let mut chain = Servers::new(alloc);
+    let mut marks = Vec::new(alloc);
     for i in 0..servers {
-        chain.push(ServerId(i + 1))?;
+        marks.push(false)?;
     }
-    Ok(View {
-        number: 1,
-        chain,
-        joiner: None,
-    })
+    Ok(marks)
 }
 
 /// So many servers, each with nothing in its log, which have adopted the view.

@@ -3,6 +3,7 @@
 mod calls;
 mod packets;
 mod turns;
+mod views;
 
 ghost use Rattle.std.specs.Prelude.{◌≡◌, ◌^◌, ◌-◌, IfOk, None};
 ghost use Rattle.kr_world.specs.Sound.{HaveBegun};
@@ -40,7 +41,10 @@ fn act<R: Threads + Sync>(
         Event::Lose(k) => packets::lose(parts, *k),
         Event::Tick(who) => turns::tick(alloc, parts, *who),
         Event::Work { server, workers } => turns::work(rt, alloc, parts, *server, *workers),
+        Event::Stop(server) => views::stop(parts, *server),
+        Event::Notice(server) => views::notice(parts, *server),
         Event::Show(server) => turns::show(parts, *server),
+        Event::Learn(client) => views::learn(parts, *client),
     }
 }
 

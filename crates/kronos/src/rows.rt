@@ -17,6 +17,7 @@ mod create_an_event;
 mod faults;
 mod queries;
 mod references;
+mod stops;
 
 // The exit, and what was written.
 #[derive(Debug, Drop)]

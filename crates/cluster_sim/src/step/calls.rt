@@ -74,7 +74,7 @@ pub fn ask(
     pairs: &Asked,
 ) -> Result<Noted, NoMemory>
     requires whole { IsWhole parts.old }
-    requires free { query_refusal (world_of parts.old) (client_at (world_of parts.old) client) (server_at (world_of parts.old) server) ≡ None }
+    requires free { query_refusal (world_of parts.old) server (client_at (world_of parts.old) client) (server_at (world_of parts.old) server) ≡ None }
     requires few { HaveBegun (2 ^ 63 - 1) (world_of parts.old).clients }
     ensures { IfOk result (Makes (client_asks (world_of parts.old) client server pairs.now (client_at (world_of parts.old) client)) parts.new) }
 {
@@ -90,7 +90,7 @@ pub fn ask(
 /// The client's open call is put into the bag once more, for this server.
 pub fn retry(parts: &mut Parts, client: ClientId, server: ServerId) -> Result<Noted, NoMemory>
     requires whole { IsWhole parts.old }
-    requires free { retry_refusal (world_of parts.old) (client_at (world_of parts.old) client) (server_at (world_of parts.old) server) ≡ None }
+    requires free { retry_refusal (world_of parts.old) server (client_at (world_of parts.old) client) (server_at (world_of parts.old) server) ≡ None }
     ensures { IfOk result (Makes (client_retries (world_of parts.old) server (client_at (world_of parts.old) client)) parts.new) }
 {
     let i = index_of(u64::from(client.0));

@@ -1,9 +1,9 @@
 //! What becomes of packets: they are delivered, or lost.
 
-ghost use Rattle.std.specs.Prelude.{◌≡◌, ◌<◌, length, slice_set, slice_get, true, IfOk, IsSome, Some};
+ghost use Rattle.std.specs.Prelude.{◌≡◌, ◌<◌, length, slice_set, slice_get, true, false, IfOk, IsSome, None, Some};
 ghost use Rattle.kr_order.specs.declared.message.Packet.{Packet};
-ghost use Rattle.kr_world.specs.World.{client_at, server_at, packet_at};
-ghost use Rattle.kr_world.specs.Step.{arrives_at_client, arrives_at_server, delivers, loses};
+ghost use Rattle.kr_world.specs.World.{client_at, server_at, packet_at, is_stopped};
+ghost use Rattle.kr_world.specs.Step.{deliver_refusal, arrives_at_client, arrives_at_server, delivers, loses};
 ghost use Rattle.cluster_sim.specs.Parts.{world_of, IsWhole, Makes};
 
 use crate::parts::{Bag, Noted, Parts};
@@ -39,6 +39,7 @@ fn arrive_at_server(
 ) -> Result<Noted, NoMemory>
     requires whole { IsWhole parts.old }
     requires there { k < length parts.old.bag.packets }
+    requires runs { is_stopped (world_of parts.old) server ≡ false }
     ensures { (packet : Packet) → slice_get parts.old.bag.packets k ≡ Some packet → IfOk result (Makes (arrives_at_server (world_of parts.old) server packet (server_at (world_of parts.old) server)) parts.new) }
 {
     let i = index_of(u64::from(server.0));
@@ -80,6 +81,7 @@ fn mark_lost(bag: &mut Bag, i: usize)
 /// The addressee of packet k takes it, and it is marked.
 pub fn deliver(alloc: Global, parts: &mut Parts, k: u64) -> Result<Noted, NoMemory>
     requires whole { IsWhole parts.old }
+    requires free { deliver_refusal (world_of parts.old) k (packet_at (world_of parts.old) k) ≡ None }
     ensures { IfOk result (Makes (delivers (world_of parts.old) k (packet_at (world_of parts.old) k)) parts.new) }
 {
     let i = index_of(k);

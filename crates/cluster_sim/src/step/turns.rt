@@ -1,12 +1,13 @@
 //! What servers do by themselves: they tick and work, and are shown.
 
-ghost use Rattle.std.specs.Prelude.{◌≡◌, IfOk, OnOk};
+ghost use Rattle.std.specs.Prelude.{◌≡◌, None, IfOk, OnOk};
 ghost use Rattle.kr_world.specs.World.{server_at};
-ghost use Rattle.kr_world.specs.Step.{works, ticks, ticks_at, shows};
+ghost use Rattle.kr_world.specs.Step.{turn_refusal, tick_refusal, works, ticks, ticks_at, shows};
 ghost use Rattle.cluster_sim.specs.Parts.{world_of, noted, IsWhole, IsCounted, IsSent, Makes};
 
 use crate::parts::{Noted, Parts, note};
 use crate::refusals::index_of;
+use crate::step::views::tell;
 use chain_server::Effects;
 use kr_order::{NoMemory, ServerId};
 use kr_world::Shown;
@@ -22,8 +23,9 @@ pub fn settle(
     effects: Effects,
 ) -> Result<(), NoMemory>
     requires { IsCounted parts.old.bag }
-    ensures views { parts.new.views ≡ parts.old.views }
+    ensures manager { parts.new.manager ≡ parts.old.manager }
     ensures servers { parts.new.servers ≡ parts.old.servers }
+    ensures stopped { parts.new.stopped ≡ parts.old.stopped }
     ensures clients { parts.new.clients ≡ parts.old.clients }
     ensures bag { OnOk result (IsSent parts.old.bag parts.new.bag effects.packets) }
     ensures journal { OnOk result (parts.new.journal ≡ noted parts.old.journal before effects.committed) }
@@ -41,6 +43,7 @@ pub fn work<R: Threads + Sync>(
     workers: u32,
 ) -> Result<Noted, NoMemory>
     requires whole { IsWhole parts.old }
+    requires free { turn_refusal (world_of parts.old) server (server_at (world_of parts.old) server) ≡ None }
     ensures { IfOk result (Makes (works (world_of parts.old) server (server_at (world_of parts.old) server)) parts.new) }
 {
     let i = index_of(u64::from(server.0));
@@ -57,6 +60,7 @@ pub fn work<R: Threads + Sync>(
 // The server tells those beside it how far it is.
 fn tick_at(alloc: Global, parts: &mut Parts, server: ServerId) -> Result<Noted, NoMemory>
     requires whole { IsWhole parts.old }
+    requires free { turn_refusal (world_of parts.old) server (server_at (world_of parts.old) server) ≡ None }
     ensures { IfOk result (Makes (ticks_at (world_of parts.old) server (server_at (world_of parts.old) server)) parts.new) }
 {
     let i = index_of(u64::from(server.0));
@@ -70,13 +74,14 @@ fn tick_at(alloc: Global, parts: &mut Parts, server: ServerId) -> Result<Noted, 
     Ok(Noted::nothing())
 }
 
-/// A tick: of a server; that of the manager does nothing yet.
+/// A tick: of a server, or of the manager, which tells the servers again of its view.
 pub fn tick(alloc: Global, parts: &mut Parts, who: Option<ServerId>) -> Result<Noted, NoMemory>
     requires whole { IsWhole parts.old }
+    requires free { tick_refusal (world_of parts.old) who ≡ None }
     ensures { IfOk result (Makes (ticks (world_of parts.old) who) parts.new) }
 {
     match who {
-        None => Ok(Noted::nothing()),
+        None => tell(parts),
         Some(server) => tick_at(alloc, parts, server),
     }
 }

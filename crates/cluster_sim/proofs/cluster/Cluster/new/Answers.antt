@@ -1,5 +1,6 @@
-use Rattle.std.proofs.Common.{◌++◌, ◌∷◌, [], map, ap, ◌∙◌, false}
+use Rattle.std.proofs.Common.{map, ap, ◌∙◌, false}
 use Rattle.kr_order.specs.Numbers.{numbers_to}
+use Rattle.kr_protocol.specs.Manager.{Manager}
 use Rattle.kr_protocol.specs.Server.{founder}
 use Rattle.kr_protocol.specs.Client.{new_client}
 use Rattle.kr_world.specs.World.{World}
@@ -9,24 +10,25 @@ use Rattle.cluster_sim.proofs.StartLemmas.{IsStart, started, started_whole}
 use Rattle.cluster_sim.proofs.cluster.Cluster.new.Goals as goal
 
 -- the parts that a cluster begins with
-parts_of : goal.After-new-2 → Parts
-parts_of c = record { views = c.push.new.self; servers = c.in_ok-nodes.nodes; clients = c.in_ok-callers.callers; bag = c.new.result; journal = c.new-2.result }
+parts_of : goal.After-new-3 → Parts
+parts_of c = record { manager = c.in_ok-manager.manager; servers = c.in_ok-nodes.nodes; stopped = c.in_ok-stopped.stopped; clients = c.in_ok-callers.callers; bag = c.new-2.result; journal = c.new-3.result }
 
-start_of : (c : goal.After-new-2) → IsStart c.args.servers c.args.clients (parts_of c)
+start_of : (c : goal.After-new-3) → IsStart c.args.servers c.args.clients (parts_of c)
 unfolding parts_of
 start_of c = record {
-  views = c.in_ok-push.ensures.ok ∙ ap (λ vs. vs ++ c.in_ok-view.view ∷ []) c.new-views.ensures ∙ ap (λ v. v ∷ []) c.in_ok-view.ensures;
-  nodes = c.in_ok-nodes.ensures ∙ ap (λ v. map (λ n. record { server = founder v (record { 0 = n }); failed = false }) (numbers_to c.args.servers)) c.in_ok-view.ensures;
-  callers = c.in_ok-callers.ensures ∙ ap (λ v. map (λ n. record { client = new_client v (record { 0 = n }); failed = false }) (numbers_to c.args.clients)) c.in_ok-view.ensures;
-  packets = c.new.ensures.packets;
-  lost = c.new.ensures.lost;
-  delivered = c.new.ensures.delivered;
-  journal = c.new-2.ensures;
+  manager = c.in_ok-manager.ensures;
+  marks = c.in_ok-stopped.ensures;
+  nodes = c.in_ok-nodes.ensures ∙ ap (λ v. map (λ n. record { server = founder v (record { 0 = n }); failed = false }) (numbers_to c.args.servers)) (c.current.ensures ∙ ap (λ (m : Manager). m.current) c.in_ok-manager.ensures);
+  callers = c.in_ok-callers.ensures ∙ ap (λ v. map (λ n. record { client = new_client v (record { 0 = n }); failed = false }) (numbers_to c.args.clients)) (c.current-2.ensures ∙ ap (λ (m : Manager). m.current) c.in_ok-manager.ensures);
+  packets = c.new-2.ensures.packets;
+  lost = c.new-2.ensures.lost;
+  delivered = c.new-2.ensures.delivered;
+  journal = c.new-3.ensures;
 }
 
 pub invariant_of-result : goal.invariant_of-result
 unfolding parts_of
-invariant_of-result c = λ _. started_whole c.args.servers c.args.clients (parts_of c) c.requires.servers_fit.low c.new.ensures.counted (start_of c)
+invariant_of-result c = λ _. started_whole c.args.servers c.args.clients (parts_of c) c.requires.servers_fit.low c.requires.servers_fit.high c.new-2.ensures.counted (start_of c)
 
 pub returns : goal.returns
 unfolding parts_of

@@ -25,11 +25,12 @@ returns g c =
     let changed : made.servers.items ≡ slice_set nodes i new = ap (λ (v : Vec ServerStanding Global). v.items) on.servers ∙ ap (λ n. slice_set nodes n new) at in
     let settled : IsSettled parts made c.args.server node new effects = record {
       there = slice_get_read nodes (length nodes) i node refl within (c.index_mut-node.ensures.value ∙ ap (λ n. get_or nodes n node) at);
-      views = on.views;
+      manager = on.manager;
+      marks = on.stopped;
       nodes = changed;
       callers = on.clients;
       bag = on.bag;
       journal = on.journal ∙ ap (λ n. noted parts.journal n effects.committed) c.done-before.ensures;
     } in
-    let worked = server_worked parts made c.args.server node new effects c.requires.whole settled c.in_ok-effects.ensures in
+    let worked = server_worked parts made c.args.server node new effects c.requires.whole c.requires.free settled c.in_ok-effects.ensures in
     subst (λ noting. Makes (works (world_of parts) c.args.server (server_at (world_of parts) c.args.server)) made noting) (sym c.nothing-2.ensures) worked
