@@ -1,0 +1,74 @@
+-- What the decoders answer, and the laws of spellings.
+use Rattle.std.proofs.Common.{◌≡◌, ℕ, ◌+◌, ◌-◌, ◌≤◌, cond, eqb, List, [], ◌++◌, length, take, drop, Ok, Err, refl, sym, ap, subst, ◌∙◌, append_assoc, arith, inl, inr}
+use Rattle.std.proofs.lemmas.Bool.{eqb-true}
+use Rattle.std.proofs.lemmas.List.{append-nil, nil_from_length, drop_at, take-append-drop, length-append}
+use Rattle.kr_order.specs.declared.message.Packet.{Packet}
+use Rattle.kr_wire.specs.declared.stop.Stop.{Stop}
+use Rattle.kr_wire.specs.declared.stop.Stop.TheVariants as stop
+use Rattle.kr_wire.specs.declared.stop.WireError.{WireError}
+use Rattle.kr_wire.specs.declared.stop.WireError.TheVariants.{Refused, NoMemory}
+use Rattle.kr_wire.specs.Valid.{IsPacket}
+use Rattle.kr_wire.specs.Spelling.{spelling}
+use Rattle.kr_wire.specs.Reading.{Read, Fails, packet_at, packet_in}
+use Rattle.kr_wire.specs.Decoding.{Decodes, IsDecoded, ReadsAt, Refuses}
+use Rattle.kr_wire.proofs.FieldLemmas.{IsBytes, IsBytes-drop, IsRead, bind_ok, test_ok}
+use Rattle.kr_wire.proofs.PacketLemmas.{packet_read}
+
+-- a packet that is read of all of the bytes is spelt by them
+pub packet_in_takes : (bytes : List ℕ) (packet : Packet) → IsBytes bytes → packet_in bytes ≡ Ok packet → IsPacket packet × (bytes ≡ spelling packet)
+unfolding packet_in
+packet_in_takes bytes packet fits e =
+    let a = bind_ok (packet_at bytes) (λ p. cond (eqb (length p.1) 0) (Ok p.0) (Err (length p.1))) packet e in
+    let g = test_ok (eqb (length a.0.1) 0) (length a.0.1) a.0.0 packet a.2 in
+    let t = packet_read.takes bytes a.0.0 a.0.1 fits a.1 in
+    let nothing : a.0.1 ≡ [] = nil_from_length a.0.1 (eqb-true _ _ g.0) in
+    let whole : bytes ≡ spelling a.0.0 = t.parts ∙ ap (λ r. spelling a.0.0 ++ r) nothing ∙ append-nil (spelling a.0.0) in
+    subst (λ p. IsPacket p × (bytes ≡ spelling p)) g.1 (t.fit, whole)
+
+-- and each packet is read of its spelling
+pub packet_in_again : (packet : Packet) → IsPacket packet → packet_in (spelling packet) ≡ Ok packet
+unfolding packet_in
+packet_in_again packet fit =
+    let whole : packet_at (spelling packet) ≡ Ok (packet, []) = ap packet_at (sym (append-nil (spelling packet))) ∙ packet_read.again packet [] fit in
+    rw whole refl
+
+-- a packet of these bytes, where they are read
+pub decoded : (bytes : List ℕ) (packet : Packet) → packet_in bytes ≡ Ok packet → IsDecoded bytes (Ok packet)
+decoded bytes packet read other fit is =
+    let again : packet_in bytes ≡ Ok other = ap packet_in is ∙ packet_in_again other fit in
+    let same : packet ≡ other = cc in
+    inl (ap (λ p. Ok p) same)
+
+-- bytes that are not read spell no packet
+pub refused : (bytes : List ℕ) (e : Stop) (error : WireError) → Fails e (packet_in bytes) → Refuses e error → Decodes bytes (Err error)
+refused bytes (stop.Broken left) (Refused at) fails refuses = λ packet fit is.
+    let again : packet_in bytes ≡ Ok packet = ap packet_in is ∙ packet_in_again packet fit in
+    absurd cc
+refused bytes (stop.Broken left) NoMemory fails refuses = tt
+refused bytes stop.NoMemory (Refused at) fails refuses = absurd cc
+refused bytes stop.NoMemory NoMemory fails refuses = tt
+
+-- the same, where they spell one
+pub refused_none : (bytes : List ℕ) (e : Stop) (error : WireError) → Fails e (packet_in bytes) → Refuses e error → IsDecoded bytes (Err error)
+refused_none bytes (stop.Broken left) error fails refuses = λ packet fit is.
+    let again : packet_in bytes ≡ Ok packet = ap packet_in is ∙ packet_in_again packet fit in
+    absurd cc
+refused_none bytes stop.NoMemory error fails refuses = λ packet fit is. inr (ap (λ e. Err e) refuses)
+
+-- what is read from a place on, and the place after it
+pub read_at : {item : Type 0} (reader : List ℕ → Read item) (text : item → List ℕ) (Fits : item → Type 0) → IsRead reader text Fits → (bytes : List ℕ) (at : ℕ) (x : item) (rest : List ℕ) → at ≤ length bytes → IsBytes bytes → reader (drop at bytes) ≡ Ok (x, rest) → ReadsAt text Fits bytes at (Ok (x, length bytes - length rest))
+read_at reader text Fits reads bytes at x rest within fits e =
+    let t = reads.takes (drop at bytes) x rest (IsBytes-drop at bytes fits) e in
+    let whole : bytes ≡ (take at bytes ++ text x) ++ rest = sym (take-append-drop at bytes) ∙ ap (λ r. take at bytes ++ r) t.parts ∙ sym (append_assoc (take at bytes) (text x) rest) in
+    let len : length bytes ≡ length (take at bytes ++ text x) + length rest = ap length whole ∙ length-append (take at bytes ++ text x) rest in
+    let behind : drop (length bytes - length rest) bytes ≡ rest = ap (drop (length bytes - length rest)) whole ∙ drop_at (take at bytes ++ text x) rest (length bytes - length rest) (omega arith) in
+    (t.fit, t.parts ∙ ap (λ r. text x ++ r) (sym behind), omega arith)
+
+-- what is not read is not spelt there
+pub not_read_at : {item : Type 0} (reader : List ℕ → Read item) (text : item → List ℕ) (Fits : item → Type 0) → IsRead reader text Fits → (bytes : List ℕ) (at : ℕ) (e : Stop) (error : WireError) → Fails e (reader (drop at bytes)) → Refuses e error → ReadsAt text Fits bytes at (Err error)
+not_read_at reader text Fits reads bytes at (stop.Broken left) (Refused place) fails refuses = λ x rest fit is.
+    let again : reader (drop at bytes) ≡ Ok (x, rest) = ap reader is ∙ reads.again x rest fit in
+    absurd cc
+not_read_at reader text Fits reads bytes at (stop.Broken left) NoMemory fails refuses = tt
+not_read_at reader text Fits reads bytes at stop.NoMemory (Refused place) fails refuses = absurd cc
+not_read_at reader text Fits reads bytes at stop.NoMemory NoMemory fails refuses = tt

@@ -1,0 +1,7 @@
+use Rattle.std.proofs.Common.{◌≡◌, ◌++◌, take}
+use Rattle.std.specs.Prelude.{flat_map}
+use Rattle.kr_wire.proofs.items.put_items.Given as goal
+
+abbrev pub invariant-loop-item : goal.invariant-loop-item
+invariant-loop-item g l =
+    l.out.items ≡ l.initial.out.items ++ flat_map g.X.Spelt.text (take l.item-index l.items)

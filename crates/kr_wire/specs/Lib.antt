@@ -1,0 +1,6 @@
+pub mod Valid
+pub mod Spelling
+pub mod Reading
+pub mod Decoding
+pub mod Rows
+pub mod Laws
