@@ -1,0 +1,5 @@
+pub mod Views
+pub mod Log
+pub mod Rule
+pub mod Copies
+pub mod Kinds
