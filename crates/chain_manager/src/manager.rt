@@ -186,6 +186,13 @@ impl Manager {
         &self.current
     }
 
+    /// How many servers were ever made, 1 to 64.
+    pub fn made(&self) -> u32
+        ensures { result ≡ self.now.made }
+    {
+        self.made
+    }
+
     /// Whether the current view names the server: as a member of its chain, or as its joiner.
     pub fn names(&self, id: ServerId) -> bool
         ensures { result ≡ names self.now.current id }

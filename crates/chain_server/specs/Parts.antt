@@ -1,5 +1,5 @@
 -- What a server sends, said of its parts.
-use Rattle.std.specs.Prelude.{ℕ, ◌==◌, Bool, not, ◌&&◌, List, [], ◌∷◌, length, Option, None, Some, if◌then◌else◌}
+use Rattle.std.specs.Prelude.{ℕ, ◌==◌, Bool, false, not, ◌&&◌, List, [], ◌∷◌, length, Option, None, Some, if◌then◌else◌}
 use Rattle.std.specs.Option.{option_to_list}
 use Rattle.kr_order.specs.declared.ids.ServerId.{ServerId}
 use Rattle.kr_order.specs.declared.ids.ClientId.{ClientId}
@@ -11,6 +11,7 @@ use Rattle.kr_order.specs.declared.message.Node.TheVariants.{Client, Server as F
 use Rattle.kr_order.specs.declared.message.Message.TheVariants.{Answered, Refer}
 use Rattle.kr_order.specs.declared.message.Packet.{Packet}
 use Rattle.kr_order.specs.declared.view.View.{View}
+use Rattle.kr_order.specs.View.{is_tail}
 use Rattle.kr_order.specs.Answer.{answers_after}
 use Rattle.kr_protocol.specs.Reaction.{Reaction}
 use Rattle.kr_protocol.specs.Server.{Server, reply_packet, told_by, sends, window}
@@ -51,10 +52,11 @@ referred id view query =
 abbrev pub is_for_tail_alone : Bool → ℕ → Bool
 is_for_tail_alone tail part = part == 2 && not tail
 
--- what a query that waits is told
-abbrev pub worked_off : ServerId → View → Bool → List Entry → Query → Packet
-worked_off id view tail history query =
-    if is_for_tail_alone tail query.part then referred id view query else answered id tail history query
+-- what a query that waits is told: a server without a view is not the tail, and has none to refer to
+abbrev pub worked_off : ServerId → Option View → List Entry → Query → Packet
+worked_off id None history query = answered id false history query
+worked_off id (Some view) history query =
+    if is_for_tail_alone (is_tail view id) query.part then referred id view query else answered id (is_tail view id) history query
 
 -- a server tells a client which view it has adopted, if it has one
 abbrev pub view_packets : ServerId → Option View → ClientId → ℕ → ℕ → List Packet

@@ -2,7 +2,8 @@
 //!
 //! Contracts see a `Server` as the server of the protocol's definitions, and whether it has failed. A server
 //! fails where a call on it finds no memory; each later call that can answer `NoMemory` then does. What the
-//! board stands for is always the acknowledged prefix of the log, and queries are answered from it alone.
+//! board stands for is always the acknowledged prefix of the log, and queries are answered from it alone. A server
+//! that is to join has no view at first, and takes no notice of anything but a view that names it.
 #![tactic(auto)]
 
 mod advance;

@@ -5,11 +5,12 @@ mod appends;
 mod asks;
 mod requests;
 mod sends;
+mod viewed;
 mod views;
 
 ghost use Rattle.std.specs.Prelude.{◌≡◌, ◌+◌, ◌≤◌, ◌^◌, [], ◌∷◌, ◌++◌, length, min, false, IfOk, OnOk, OnErr};
 ghost use Rattle.kr_protocol.specs.Reaction.{ignored};
-ghost use Rattle.kr_protocol.specs.Server.{founder, is_server, view_number, acknowledged, advances};
+ghost use Rattle.kr_protocol.specs.Server.{founder, newcomer, view_number, acknowledged, advances};
 ghost use Rattle.kr_order.specs.Held.{held_events, held_pairs};
 ghost use Rattle.chain_server.specs.Calls.{Takes, Does};
 
@@ -29,9 +30,10 @@ use std::thread::Threads;
 pub struct Server<B: Board> {
     alloc: Global,
     id: ServerId,
-    view: View,
+    view: Option<View>,
     log: Log,
     link: Link,
+    need: u64,
     board: B,
     waiting: Listed<Query>,
     failed: bool,
@@ -43,19 +45,9 @@ impl<B: Board> Model for Server<B> {
 
     ghost Value = { ServerStanding };
 
-    ghost view = { λ s. record { server = server_of s.id s.view s.log (B.stands s.board) s.link.fed s.waiting; failed = s.failed } };
+    ghost view = { λ s. record { server = server_of s.id s.view s.log (B.stands s.board) s.link.fed s.need s.waiting; failed = s.failed } };
 
     ghost invariant = { λ s. IsWhole s.id s.view s.link.next s.failed (B.stands s.board) s.log };
-}
-
-// Whether this is that server.
-fn is_server(server: Option<ServerId>, id: ServerId) -> bool
-    ensures { result ≡ is_server server id }
-{
-    match server {
-        None => false,
-        Some(server) => server.0 == id.0,
-    }
 }
 
 impl<B: Board> Server<B> {
@@ -69,9 +61,28 @@ impl<B: Board> Server<B> {
         Server {
             alloc,
             id,
-            view,
+            view: Some(view),
             log: Log::new(alloc),
             link,
+            need: 0,
+            board,
+            waiting: Listed::new(alloc),
+            failed: false,
+        }
+    }
+
+    /// A server that is to join, with nothing in its log. It has no view until the manager tells it of one.
+    pub fn joiner(alloc: Global, id: ServerId, board: B) -> Self
+        requires { B.stands board ≡ [] }
+        ensures { result ≡ record { server = newcomer id; failed = false } }
+    {
+        Server {
+            alloc,
+            id,
+            view: None,
+            log: Log::new(alloc),
+            link: Link::new(),
+            need: 0,
             board,
             waiting: Listed::new(alloc),
             failed: false,
@@ -85,11 +96,14 @@ impl<B: Board> Server<B> {
         self.id
     }
 
-    /// The number of the view that the server has adopted.
+    /// The number of the view that the server has adopted, 0 where it has none.
     pub fn view_number(&self) -> u64
         ensures { result ≡ view_number self.now.server.view }
     {
-        self.view.number
+        match &self.view {
+            None => 0,
+            Some(view) => view.number,
+        }
     }
 
     /// How many entries the server's log has.
@@ -161,9 +175,9 @@ impl<B: Board> Server<B> {
         requires few { upto ≤ 2 ^ 58 }
         ensures { Does self.old (advances self.old.server upto) result self.new }
     {
+        let tail = self.is_at_tail();
         self.failed = true;
         let committed = apply_upto(self.alloc, &mut self.board, &self.log, upto)?;
-        let tail = self.view.is_tail(self.id);
         let packets = replies_of(self.alloc, self.id, tail, &self.board, committed.as_slice())?;
         self.failed = false;
         Ok(Effects { committed, packets })

@@ -44,6 +44,25 @@ fn without_tail(alloc: Global, number: u64) -> Result<Packet, NoMemory> {
     })
 }
 
+// The manager's packet to a server, with the second view of the head alone, which the middle server joins.
+fn joining(alloc: Global, to: ServerId) -> Result<Packet, NoMemory> {
+    let mut view = view_of(alloc, 2, &[HEAD])?;
+    view.joiner = Some(MIDDLE);
+    Ok(Packet {
+        from: Node::Manager,
+        to: Node::Server(to),
+        message: Message::NewView { view },
+    })
+}
+
+// The middle server when it has heard that it joins.
+fn middle_joiner(alloc: Global) -> Result<Server<PlainBoard>, NoMemory> {
+    let mut joiner = Server::joiner(alloc, MIDDLE, PlainBoard::new(alloc));
+    let packet = joining(alloc, MIDDLE)?;
+    let _ = joiner.take(&packet)?;
+    Ok(joiner)
+}
+
 // A packet of client 7 to a server.
 fn asked_of(to: ServerId, message: Message) -> Packet {
     Packet {
@@ -102,6 +121,40 @@ fn is_ack_and_window(packets: &Packets) -> bool {
     }
 }
 
+// Whether this is one packet, that tells the manager that the middle server has caught up.
+fn is_joined(packets: &Packets) -> bool {
+    match packets.as_slice() {
+        [packet] => match &packet.message {
+            Message::Joined { joiner } => *joiner == MIDDLE && packet.to == Node::Manager,
+            _ => false,
+        },
+        _ => false,
+    }
+}
+
+// Whether the server tells so when the middle server has so many entries.
+fn tells_joined(server: &mut Server<PlainBoard>, len: u64) -> Result<bool, NoMemory> {
+    let effects = server.take(&Packet {
+        from: Node::Server(MIDDLE),
+        to: Node::Server(HEAD),
+        message: Message::Ack { done: 0, len },
+    })?;
+    Ok(is_joined(&effects.packets))
+}
+
+// The head alone, with one entry, when it has heard that the middle server joins.
+fn head_beside_joiner(alloc: Global) -> Result<Server<PlainBoard>, NoMemory> {
+    let view = view_of(alloc, 1, &[HEAD])?;
+    let mut head = Server::founder(alloc, HEAD, view, PlainBoard::new(alloc));
+    let request = Message::Request {
+        seq: 1,
+        command: Command::Create,
+    };
+    let _ = head.take(&asked_of(HEAD, request))?;
+    let _ = head.take(&joining(alloc, HEAD)?)?;
+    Ok(head)
+}
+
 #[test]
 fn a_command_is_passed_on_by_the_head(rt: HostRuntime) -> Result<(), Fail> {
     let mut head = member(rt.alloc(), HEAD)?;
@@ -135,20 +188,15 @@ fn a_tick_sends_the_acknowledgement_and_the_window(rt: HostRuntime) -> Result<()
     Ok(())
 }
 
-// The middle server with the first entry in its log.
-fn middle_with_entry(alloc: Global) -> Result<Server<PlainBoard>, NoMemory> {
-    let mut middle = member(alloc, MIDDLE)?;
-    let _ = middle.take(&first_entry(alloc, HEAD, MIDDLE)?)?;
-    Ok(middle)
-}
-
 #[test]
 fn a_newer_view_makes_a_tail(rt: HostRuntime) -> Result<(), Fail> {
-    let mut middle = middle_with_entry(rt.alloc())?;
-    let adopted = middle.take(&without_tail(rt.alloc(), 2)?)?;
+    let alloc = rt.alloc();
+    let mut middle = member(alloc, MIDDLE)?;
+    let _ = middle.take(&first_entry(alloc, HEAD, MIDDLE)?)?;
+    let adopted = middle.take(&without_tail(alloc, 2)?)?;
     // a reply to the client, then an acknowledgement to the server before
-    let is_tail = middle.view_number() == 2 && middle.done() == 1;
-    assert!(&rt; is_tail && adopted.packets.len() == 2);
+    assert_eq!(&rt; (adopted.committed.len(), adopted.packets.len()), (1, 2));
+    assert_eq!(&rt; (middle.view_number(), middle.done()), (2, 1));
     Ok(())
 }
 
@@ -170,5 +218,39 @@ fn sixty_four_queries_wait(rt: HostRuntime) -> Result<(), Fail> {
         let _ = tail.take(&query(alloc, TAIL, 2)?)?;
     }
     assert_eq!(&rt; tail.waiting(), 64);
+    Ok(())
+}
+
+#[test]
+fn the_manager_hears_of_a_joiner_that_has_what_it_has_to_have(rt: HostRuntime) -> Result<(), Fail> {
+    let mut head = head_beside_joiner(rt.alloc())?;
+    let early = tells_joined(&mut head, 0)?;
+    let then = tells_joined(&mut head, 1)?;
+    assert_eq!(&rt; (early, then), (false, true));
+    Ok(())
+}
+
+#[test]
+fn a_joiner_takes_entries_of_the_last_server(rt: HostRuntime) -> Result<(), Fail> {
+    let alloc = rt.alloc();
+    let mut joiner = middle_joiner(alloc)?;
+    let taken = joiner.take(&first_entry(alloc, HEAD, MIDDLE)?)?;
+    // an acknowledgement to the last server
+    assert_eq!(&rt;
+        (taken.packets.len(), joiner.len(), joiner.done()),
+        (1, 1, 0)
+    );
+    Ok(())
+}
+
+#[test]
+fn a_server_without_a_view_takes_no_entries(rt: HostRuntime) -> Result<(), Fail> {
+    let alloc = rt.alloc();
+    let mut joiner = Server::joiner(alloc, MIDDLE, PlainBoard::new(alloc));
+    let taken = joiner.take(&first_entry(alloc, HEAD, MIDDLE)?)?;
+    assert_eq!(&rt;
+        (taken.packets.len(), joiner.len(), joiner.view_number()),
+        (0, 0, 0)
+    );
     Ok(())
 }

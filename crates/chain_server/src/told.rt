@@ -3,9 +3,8 @@
 ghost use Rattle.std.specs.Prelude.{◌≡◌, map, IfOk};
 ghost use Rattle.kr_order.specs.Answer.{partial};
 ghost use Rattle.kr_protocol.specs.Server.{told_by};
-ghost use Rattle.kr_order.specs.View.{is_tail};
 ghost use Rattle.query_worker.specs.Told.{told_after};
-ghost use Rattle.chain_server.specs.Parts.{is_for_tail_alone, worked_off};
+ghost use Rattle.chain_server.specs.Parts.{is_for_tail_alone, view_packets, worked_off};
 
 use kr_order::{
     Answer, Answers, ClientId, Copied, Message, NoMemory, Node, Packet, Packets, Query, ServerId,
@@ -56,8 +55,8 @@ pub fn is_for_tail(tail: bool, part: u8) -> bool
     part == 2 && !tail
 }
 
-/// The view of a server, for the client of a query.
-pub fn refer(
+// The view of a server, for the client of a query.
+fn refer(
     alloc: Global,
     id: ServerId,
     view: &View,
@@ -73,6 +72,25 @@ pub fn refer(
         to: Node::Client(client),
         message: Message::Refer { q, part, view },
     })
+}
+
+/// The same of the view that a server has adopted, if it has one.
+pub fn referrals(
+    alloc: Global,
+    id: ServerId,
+    view: &Option<View>,
+    client: ClientId,
+    q: u64,
+    part: u8,
+) -> Result<Packets, NoMemory>
+    ensures { IfOk result (λ packets. packets ≡ view_packets id view.now client q part) }
+{
+    let mut packets = Packets::new(alloc);
+    let Some(view) = view else {
+        return Ok(packets);
+    };
+    packets.push(refer(alloc, id, view, client, q, part)?)?;
+    Ok(packets)
 }
 
 // The packet with the answers to a query.
@@ -104,13 +122,16 @@ fn answer(
 fn packet_of(
     alloc: Global,
     id: ServerId,
-    view: &View,
+    view: &Option<View>,
     query: &Query,
     told: &Told,
 ) -> Result<Packet, NoMemory>
     ensures { (history : _) → told.now ≡ told_after history query.now →
-        IfOk result (λ packet. packet ≡ worked_off id view.now (is_tail view.now id) history query.now) }
+        IfOk result (λ packet. packet ≡ worked_off id view.now history query.now) }
 {
+    let Some(view) = view else {
+        return answer(alloc, id, false, query, told);
+    };
     let tail = view.is_tail(id);
     if is_for_tail(tail, query.part) {
         refer(alloc, id, view, query.client, query.q, query.part)
@@ -119,17 +140,17 @@ fn packet_of(
     }
 }
 
-/// What these queries are told by a server of this view, from what its board has applied.
+/// What these queries are told by a server that has adopted this view, from what its board has applied.
 pub fn work_packets<B: Board, R: Threads + Sync>(
     rt: &R,
     alloc: Global,
     id: ServerId,
-    view: &View,
+    view: &Option<View>,
     board: &B,
     waiting: &[Query],
     workers: u32,
 ) -> Result<Packets, NoMemory>
-    ensures { IfOk result (λ packets. packets ≡ map (worked_off id view.now (is_tail view.now id) (B.stands board.now)) waiting.now) }
+    ensures { IfOk result (λ packets. packets ≡ map (worked_off id view.now (B.stands board.now)) waiting.now) }
 {
     let told = board.all(rt, waiting, workers)?;
     let mut packets = Packets::new(alloc);

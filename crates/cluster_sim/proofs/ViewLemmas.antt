@@ -1,30 +1,35 @@
 -- Stops, views and who learns them, in the parts of a cluster.
 use Rattle.std.proofs.Common.{◌≡◌, ◌≢◌, ℕ, ◌-◌, ◌<◌, Bool, true, false, not, cond, ◌&&◌, ◌||◌, eqb, List, [], ◌∷◌, ◌++◌, length, map, get_or, refl, sym, ap, ◌∙◌, subst, arith}
-use Rattle.std.specs.Prelude.{Option, None, Some, Result, IfOk, slice_get, slice_set}
+use Rattle.std.specs.Prelude.{Option, None, Some, Result, IfOk, IsNone, ◌↔◌, slice_get, slice_set, All}
 use Rattle.std.specs.declared.vec.Vec.{Vec}
 use Rattle.std.specs.declared.alloc.Global.{Global}
 use Rattle.std.proofs.lemmas.Bool.{eqb-true, false≢true}
-use Rattle.std.proofs.lemmas.List.{append-nil, length-map}
+use Rattle.std.proofs.lemmas.List.{append-nil, length-map, map-append}
+use Rattle.std.proofs.lemmas.List.Elements.{All-push}
 use Rattle.std.proofs.lemmas.Option.{none-some, slice_get_read, slice_get_within}
 use Rattle.kr_order.specs.declared.ids.ClientId.{ClientId}
 use Rattle.kr_order.specs.declared.ids.ServerId.{ServerId}
 use Rattle.kr_order.specs.declared.message.Packet.{Packet}
-use Rattle.kr_protocol.specs.Manager.{Manager, names, members_but, removes}
-use Rattle.kr_protocol.specs.Server.{Server}
+use Rattle.kr_order.specs.declared.view.View.{View}
+use Rattle.kr_protocol.specs.Manager.{Manager, names, members_but, may_promote, next_server, removes, adds, promotes, views_of}
+use Rattle.kr_protocol.specs.Server.{Server, newcomer}
 use Rattle.kr_protocol.specs.Client.{Client, learns}
 use Rattle.kr_protocol.proofs.NameLemmas.{member, in_chain-member, same_server}
 use Rattle.chain_server.specs.ServerStanding.{ServerStanding}
 use Rattle.client_session.specs.ClientStanding.{ClientStanding}
 use Rattle.kr_world.specs.World.{World, client_at, server_at, is_stopped}
 use Rattle.kr_world.specs.declared.refusal.Refusal.TheVariants.{NoSuchClient, NoSuchServer}
-use Rattle.kr_world.specs.Step.{have_stopped, notice_refusal, learn_refusal, manager_tells, notices, learns_view}
-use Rattle.kr_world.specs.Sound.{IsServed}
+use Rattle.kr_world.specs.Step.{quiet, have_stopped, notice_refusal, join_refusal, learn_refusal, manager_tells, joined_at_manager, notices, joins, learns_view}
+use Rattle.kr_world.specs.Sound.{IsSound, IsServed, HasJoined}
 use Rattle.kr_world.proofs.SeatLemmas.{mark_of}
-use Rattle.kr_world.proofs.ManagerLemmas.{may_notice, removed_sound}
+use Rattle.kr_world.proofs.ManagerLemmas.{may_notice, removed_sound, with_newcomer, with_newcomer_sound, may_join, may_promote_so, with_member_sound}
 use Rattle.kr_order.specs.declared.ids.NoMemory.{NoMemory}
 use Rattle.cluster_sim.specs.declared.parts.Noted.{Noted}
 use Rattle.cluster_sim.specs.declared.parts.Parts.{Parts}
-use Rattle.cluster_sim.specs.Parts.{world_of, IsWhole, Makes}
+use Rattle.kr_order.specs.declared.history.DoneEntry.{DoneEntry}
+use Rattle.kr_order.specs.Done.{done_of}
+use Rattle.cluster_sim.specs.declared.parts.Bag.{Bag}
+use Rattle.cluster_sim.specs.Parts.{history_of, world_of, IsCounted, IsWhole, Makes}
 use Rattle.cluster_sim.proofs.PartsLemmas.{nothing_noted, client_there, server_there, clients_after, clients_whole, client_within}
 
 and_assoc : (a b c : Bool) → (a && (b && c)) ≡ ((a && b) && c)
@@ -147,3 +152,93 @@ noticed_makes parts made server k node manager id result same is none its remove
     let m : manager ≡ removes parts.manager node.server.id = removed ∙ ap (removes parts.manager) its in
     let told : IfOk result (Makes (manager_tells w (removes parts.manager node.server.id)) made) = subst (λ m. IfOk result (Makes (manager_tells w m) made)) m tells in
     subst (λ found. IfOk result (Makes (notices w found) made)) (sym at) told
+
+-- what the parts are once a new server is among them, and the manager has made the view with it
+pub record HasAdded (parts made : Parts) : Type 0 where
+  pub manager : made.manager ≡ adds parts.manager
+  pub nodes : made.servers.items ≡ parts.servers.items ++ record { server = newcomer (next_server parts.manager); failed = false } ∷ []
+  pub marks : made.stopped.items ≡ parts.stopped.items ++ false ∷ []
+  pub callers : made.clients ≡ parts.clients
+  pub bag : made.bag ≡ parts.bag
+  pub journal : made.journal ≡ parts.journal
+
+added_world : (parts made : Parts) → HasAdded parts made → world_of made ≡ with_newcomer (world_of parts)
+added_world parts made added =
+    let f : Manager → List Server → List Bool → Vec ClientStanding Global → Bag → List DoneEntry → World =
+    λ m ns marks cs bag journal. record { manager = m; servers = ns; stopped = marks; clients = map (λ (c : ClientStanding). c.client) cs.items; bag = bag.packets; lost = bag.lost.items; delivered = bag.delivered.items; history = history_of journal } in
+    let nodes : map (λ (s : ServerStanding). s.server) made.servers.items ≡ (world_of parts).servers ++ newcomer (next_server parts.manager) ∷ [] =
+    ap (map (λ (s : ServerStanding). s.server)) added.nodes ∙ map-append (λ (s : ServerStanding). s.server) parts.servers.items (record { server = newcomer (next_server parts.manager); failed = false } ∷ []) in
+    let its = map (λ (s : ServerStanding). s.server) made.servers.items in
+    let ns = (world_of parts).servers ++ newcomer (next_server parts.manager) ∷ [] in
+    let ms = parts.stopped.items ++ false ∷ [] in
+    ap (λ m. f m its made.stopped.items made.clients made.bag made.journal) added.manager
+    ∙ ap (λ xs. f (adds parts.manager) xs made.stopped.items made.clients made.bag made.journal) nodes
+    ∙ ap (λ xs. f (adds parts.manager) ns xs made.clients made.bag made.journal) added.marks
+    ∙ ap (λ cs. f (adds parts.manager) ns ms cs made.bag made.journal) added.callers
+    ∙ ap (λ b. f (adds parts.manager) ns ms parts.clients b made.journal) added.bag
+    ∙ ap (f (adds parts.manager) ns ms parts.clients parts.bag) added.journal
+
+pub added_whole : (parts made : Parts) → IsWhole parts → join_refusal (world_of parts) ≡ None → HasAdded parts made → IsWhole made
+added_whole parts made whole none added =
+    let may = may_join (world_of parts) none in
+    let new : ServerStanding = record { server = newcomer (next_server parts.manager); failed = false } in
+    record {
+      servers = subst (All (λ s. s.failed ≡ false)) (sym added.nodes) (All-push (λ s. s.failed ≡ false) parts.servers.items new whole.servers refl);
+      clients = subst (λ (cs : Vec ClientStanding Global). All (λ c. c.failed ≡ false) cs.items) (sym added.callers) whole.clients;
+      journal = subst (λ j. j ≡ done_of (history_of j)) (sym added.journal) whole.journal;
+      counted = subst IsCounted (sym added.bag) whole.counted;
+      sound = subst IsSound (sym (added_world parts made added)) (with_newcomer_sound (world_of parts) whole.sound may.none may.few);
+    }
+
+-- what the manager tells then is what a join does
+pub added_makes : (parts added made : Parts) (result : Result Noted NoMemory) → HasAdded parts added
+    → IfOk result (Makes (manager_tells (world_of added) added.manager) made) → IfOk result (Makes (joins (world_of parts)) made)
+added_makes parts added made result has tells =
+    let told : IfOk result (Makes (manager_tells (with_newcomer (world_of parts)) added.manager) made) = subst (λ w. IfOk result (Makes (manager_tells w added.manager) made)) (added_world parts added has) tells in
+    subst (λ m. IfOk result (Makes (manager_tells (with_newcomer (world_of parts)) m) made)) has.manager told
+
+-- a view was made exactly where the manager may promote
+pub may_of_some : (current : View) (from joiner : ServerId) (view : Option View) (made : View) → view ≡ Some made
+    → (IsNone view ↔ (may_promote current from joiner ≡ false)) → may_promote current from joiner ≡ true
+may_of_some current from joiner view made is exactly = by_test (may_promote current from joiner) refl
+  where
+    by_test : (test : Bool) → may_promote current from joiner ≡ test → may_promote current from joiner ≡ true
+    by_test true may = may
+    by_test false may = absurd (false≢true (sym (subst IsNone is (exactly.1 may))))
+
+-- the parts are whole once the joiner is a member
+pub member_whole : (parts : Parts) (from joiner : ServerId) → IsWhole parts → HasJoined (views_of parts.manager) (world_of parts).servers from joiner
+    → may_promote parts.manager.current from joiner ≡ true → IsWhole (record parts { manager = promotes parts.manager joiner })
+member_whole parts from joiner whole said may =
+    record {
+      servers = whole.servers;
+      clients = whole.clients;
+      journal = whole.journal;
+      counted = whole.counted;
+      sound = with_member_sound (world_of parts) whole.sound from joiner said (may_promote_so parts.manager.current from joiner may);
+    }
+
+-- what the manager tells then is what a joiner's promotion does
+pub member_makes : (parts made : Parts) (from joiner : ServerId) (manager : Manager) (result : Result Noted NoMemory)
+    → may_promote parts.manager.current from joiner ≡ true → manager ≡ promotes parts.manager joiner
+    → IfOk result (Makes (manager_tells (world_of (record parts { manager = manager })) manager) made)
+    → IfOk result (Makes (joined_at_manager (world_of parts) from joiner) made)
+member_makes parts made from joiner manager result may is tells =
+    let told : IfOk result (Makes (manager_tells (world_of parts) (promotes parts.manager joiner)) made) = subst (λ m. IfOk result (Makes (manager_tells (world_of parts) m) made)) is tells in
+    subst (λ test. IfOk result (Makes (cond test (manager_tells (world_of parts) (promotes parts.manager joiner)) (quiet (world_of parts))) made)) (sym may) told
+
+-- and where it is none
+pub none_makes : (parts : Parts) (from joiner : ServerId) → IsWhole parts → may_promote parts.manager.current from joiner ≡ false
+    → Makes (joined_at_manager (world_of parts) from joiner) parts nothing_noted
+none_makes parts from joiner whole may =
+    subst (λ test. Makes (cond test (manager_tells (world_of parts) (promotes parts.manager joiner)) (quiet (world_of parts))) parts nothing_noted) (sym may) (record {
+      after = refl;
+      told = refl;
+      parts = refl;
+      shown = refl;
+      refused = refl;
+      servers = whole.servers;
+      clients = whole.clients;
+      journal = whole.journal;
+      counted = whole.counted;
+    })

@@ -200,6 +200,8 @@ fn word_of(why: Refusal) -> &'static [u8]
         Refusal::LastServer => b"LastServer",
         Refusal::NotStopped => b"NotStopped",
         Refusal::NotMember => b"NotMember",
+        Refusal::JoinerThere => b"JoinerThere",
+        Refusal::ServersSpent => b"ServersSpent",
         Refusal::BagFull => b"BagFull",
     }
 }

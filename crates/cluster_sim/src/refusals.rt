@@ -3,10 +3,11 @@
 ghost use Rattle.std.specs.Prelude.{◌≡◌, ◌-◌, slice_index_or, false};
 ghost use Rattle.kr_protocol.specs.Manager.{members_but};
 ghost use Rattle.kr_world.specs.World.{client_at, server_at, packet_at, is_marked, is_stopped, has_stopped};
-ghost use Rattle.kr_world.specs.Step.{if_full, refusal_of, call_refusal, server_refusal, query_refusal, retry_refusal, turn_refusal, tick_refusal, deliver_refusal, lose_refusal, have_stopped, is_last_running, stop_refusal, notice_refusal, show_refusal, learn_refusal};
+ghost use Rattle.kr_world.specs.Step.{if_full, refusal_of, call_refusal, server_refusal, query_refusal, retry_refusal, turn_refusal, tick_refusal, deliver_refusal, lose_refusal, have_stopped, is_last_running, stop_refusal, notice_refusal, join_refusal, show_refusal, learn_refusal};
 ghost use Rattle.cluster_sim.specs.Parts.{world_of, IsCounted};
 
 use crate::parts::Parts;
+use chain_manager::MOST_SERVERS;
 use kr_order::{ClientId, Node, ServerId};
 use kr_world::Refusal;
 use script_lang::Event;
@@ -233,6 +234,21 @@ fn show_refusal(parts: &Parts, server: ServerId) -> Option<Refusal>
     server_refusal(parts, server, None)
 }
 
+// Why no server joins.
+fn join_refusal(parts: &Parts) -> Option<Refusal>
+    requires { IsCounted parts.now.bag }
+    ensures { result ≡ join_refusal (world_of parts.now) }
+{
+    if parts.manager.current().joiner.is_some() {
+        return Some(Refusal::JoinerThere);
+    }
+    if parts.manager.made() >= MOST_SERVERS {
+        Some(Refusal::ServersSpent)
+    } else {
+        if_full(parts)
+    }
+}
+
 // Why a client does not learn the view.
 fn learn_refusal(parts: &Parts, client: ClientId) -> Option<Refusal>
     ensures { result ≡ learn_refusal (client_at (world_of parts.now) client) }
@@ -259,6 +275,7 @@ pub fn refusal(parts: &Parts, event: &Event) -> Option<Refusal>
         Event::Stop(server) => stop_refusal(parts, *server),
         Event::Notice(server) => notice_refusal(parts, *server),
         Event::Show(server) => show_refusal(parts, *server),
+        Event::Join => join_refusal(parts),
         Event::Learn(client) => learn_refusal(parts, *client),
     }
 }

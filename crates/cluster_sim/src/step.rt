@@ -44,6 +44,7 @@ fn act<R: Threads + Sync>(
         Event::Stop(server) => views::stop(parts, *server),
         Event::Notice(server) => views::notice(parts, *server),
         Event::Show(server) => turns::show(parts, *server),
+        Event::Join => views::join(alloc, parts),
         Event::Learn(client) => views::learn(parts, *client),
     }
 }

@@ -124,7 +124,7 @@ pub record IsBefore (view : View) (before id : ServerId) : Type 0 where
   pub nearest : (other : ServerId) → names view other ≡ true → other.0 < id.0 → other.0 ≤ before.0
 
 -- a joiner has the greatest id
-under_joiner : (view : View) (made : ℕ) → IsRising view made → (id other : ServerId) → view.joiner ≡ Some id → names view other ≡ true → other.0 < id.0 → in_chain view other ≡ true
+pub under_joiner : (view : View) (made : ℕ) → IsRising view made → (id other : ServerId) → view.joiner ≡ Some id → names view other ≡ true → other.0 < id.0 → in_chain view other ≡ true
 under_joiner view made rising id other joins named lt = by_kind (member_or_joiner view other named)
   where
     by_kind : (in_chain view other ≡ true) ⊎ ((in_chain view other ≡ false) × (view.joiner ≡ Some other)) → in_chain view other ≡ true
@@ -263,3 +263,19 @@ tail_last view made rising id is = by_index (index_in view id) refl
     by_index : (index : Option ℕ) → index_in view id ≡ index → (last_member view ≡ Some id) × (view.joiner ≡ None)
     by_index None found = absurd (false≢true (sym (ap (λ (o : Option ℕ). is_some o) found) ∙ (and_parts (in_chain view id) (is_none (next_of view id)) is).0))
     by_index (Some i) found = by_next i (found_at view id i found) (slice_get view.chain (i + 1)) refl (sym (ap (next_at view) found) ∙ none_follows)
+
+-- nobody joins behind the tail, whatever the view is
+pub tail_alone : (view : View) (id : ServerId) → is_tail view id ≡ true → view.joiner ≡ None
+tail_alone view id is = by_index (index_in view id) refl
+  where
+    none_found : (found : Option ServerId) → is_none found ≡ true → found ≡ None
+    none_found None is = refl
+    none_found (Some other) is = absurd (false≢true is)
+
+    by_found : (found : Option ServerId) → or_joiner found view.joiner ≡ None → view.joiner ≡ None
+    by_found None none = none
+    by_found (Some other) none = absurd (none-some other (sym none))
+
+    by_index : (index : Option ℕ) → index_in view id ≡ index → view.joiner ≡ None
+    by_index None found = absurd (false≢true (sym (ap (λ (o : Option ℕ). is_some o) found) ∙ (and_parts (in_chain view id) (is_none (next_of view id)) is).0))
+    by_index (Some i) found = by_found (slice_get view.chain (i + 1)) (sym (ap (next_at view) found) ∙ none_found (next_of view id) (and_parts (in_chain view id) (is_none (next_of view id)) is).1)

@@ -1,16 +1,17 @@
 -- Who stands before whom in a view and in later ones.
-use Rattle.std.proofs.Common.{◌≡◌, ◌≢◌, ◌⊎◌, ℕ, ◌+◌, ◌-◌, ◌<◌, ◌≤◌, Bool, true, false, List, [], ◌∷◌, refl, sym, ◌∙◌, subst, arith, inl, inr}
+use Rattle.std.proofs.Common.{◌≡◌, ◌≢◌, ◌⊎◌, ℕ, ◌+◌, ◌-◌, ◌<◌, ◌≤◌, Bool, true, false, List, [], ◌∷◌, refl, sym, ap, ◌∙◌, subst, arith, inl, inr}
 use Rattle.std.specs.Prelude.{Some, slice_get}
-use Rattle.std.proofs.lemmas.Bool.{cases_eq, false≢true}
+use Rattle.std.proofs.lemmas.Bool.{cases_eq, eq-eqb, false≢true}
 use Rattle.std.proofs.lemmas.Option.{none-some, same_Some, slice_get_past}
 use Rattle.kr_order.specs.declared.ids.ServerId.{ServerId}
 use Rattle.kr_order.specs.declared.view.View.{View}
-use Rattle.kr_order.specs.View.{in_chain, prev_of, first_view}
+use Rattle.kr_order.specs.View.{in_chain, is_joiner, last_member, prev_of, first_view}
 use Rattle.kr_protocol.specs.Manager.{Manager, names, views_of, with_joiner}
 use Rattle.kr_protocol.specs.Evolves.{IsNext, is_without, is_joined, is_promoted, Evolves, begins, goes_on}
+use Rattle.kr_protocol.proofs.NameLemmas.{joiner_named}
 use Rattle.kr_protocol.proofs.EvolveLemmas.{named_still, promoted_names}
-use Rattle.kr_protocol.proofs.TimelineLemmas.{IsAt, is_before, is_last, at_of, IsListed, made_by, counting, current_listed, follow, rises, named_before}
-use Rattle.kr_protocol.proofs.NeighbourLemmas.{member_is_named, member_or_joiner, under_member, prev_before, before_prev}
+use Rattle.kr_protocol.proofs.TimelineLemmas.{IsAt, is_before, is_last, at_of, IsListed, made_by, counting, current_listed, follow, rises, named_before, between}
+use Rattle.kr_protocol.proofs.NeighbourLemmas.{member_is_named, member_or_joiner, under_member, prev_before, before_prev, under_joiner, last_is, is_the_last}
 
 -- as long as both are named, the one stands before the other
 pub neighbours_stay : (stopped : ServerId → Bool) (manager : Manager) (evolves : Evolves stopped manager) (view later : View) (before id : ServerId)
@@ -122,3 +123,39 @@ gap_closes stopped manager evolves k view next gone before id at at' was is diff
     by_named other named lt left gone_named nearest less false is =
         let both = listed_next stopped manager evolves k view next at at' in
         absurd (omega (arith, one_left stopped view both.made next both.now other gone both.is named gone_named is left))
+
+-- who joins by two views joins by each between
+pub joins_between : (stopped : ServerId → Bool) (manager : Manager) (evolves : Evolves stopped manager) (view middle later : View) (joiner : ServerId)
+    → IsListed manager view → IsListed manager middle → IsListed manager later → view.number ≤ middle.number → middle.number ≤ later.number
+    → view.joiner ≡ Some joiner → later.joiner ≡ Some joiner → middle.joiner ≡ Some joiner
+joins_between stopped manager evolves view middle later joiner at mid at' le le' is is' =
+    by_kind (member_or_joiner middle joiner (between stopped manager evolves view middle later joiner at mid at' le le' (joins view is) (joins later is')))
+  where
+    joins : (v : View) → v.joiner ≡ Some joiner → names v joiner ≡ true
+    joins v is = joiner_named v joiner (ap (λ j. is_joiner j joiner) is ∙ eq-eqb joiner.0 joiner.0 refl)
+
+    by_kind : (in_chain middle joiner ≡ true) ⊎ ((in_chain middle joiner ≡ false) × (middle.joiner ≡ Some joiner)) → middle.joiner ≡ Some joiner
+    by_kind (inr both) = both.1
+    by_kind (inl member) =
+        let member' = (follow stopped manager evolves middle later mid at' le').members joiner member (joins later is') in
+        absurd (omega (arith, (rises stopped manager evolves later at').joiner joiner joiner member' is'))
+
+-- the last member beside a joiner by two views is so by each between
+pub last_between : (stopped : ServerId → Bool) (manager : Manager) (evolves : Evolves stopped manager) (view middle later : View) (joiner last : ServerId)
+    → IsListed manager view → IsListed manager middle → IsListed manager later → view.number ≤ middle.number → middle.number ≤ later.number
+    → view.joiner ≡ Some joiner → later.joiner ≡ Some joiner → last_member view ≡ Some last → last_member later ≡ Some last → last_member middle ≡ Some last
+last_between stopped manager evolves view middle later joiner last at mid at' le le' is is' ends ends' =
+    let first = rises stopped manager evolves view at in
+    let between_them = rises stopped manager evolves middle mid in
+    let its = last_is view (made_by stopped manager evolves view) first last ends in
+    let its' = last_is later (made_by stopped manager evolves later) (rises stopped manager evolves later at') last ends' in
+    let named = between stopped manager evolves view middle later last at mid at' le le' (member_is_named view last its.member) (member_is_named later last its'.member) in
+    let joins = joins_between stopped manager evolves view middle later joiner at mid at' le le' is is' in
+    let known : names view joiner ≡ true = joiner_named view joiner (ap (λ j. is_joiner j joiner) is ∙ eq-eqb joiner.0 joiner.0 refl) in
+    is_the_last middle (made_by stopped manager evolves middle) between_them last (record {
+      member = (follow stopped manager evolves view middle at mid le).members last its.member named;
+      greatest = λ other in_it.
+          let under = between_them.joiner other joiner in_it joins in
+          let before = named_before stopped manager evolves view middle other joiner at mid le known (member_is_named middle other in_it) (omega arith) in
+          its.greatest other (under_joiner view (made_by stopped manager evolves view) first joiner other is before under);
+    })

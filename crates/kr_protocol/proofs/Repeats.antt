@@ -18,7 +18,7 @@ use Rattle.kr_order.specs.declared.view.View.{View}
 use Rattle.kr_order.specs.View.{prev_of}
 use Rattle.kr_order.specs.Done.{done_of, last_of}
 use Rattle.kr_protocol.specs.Reaction.{Reaction, ignored}
-use Rattle.kr_protocol.specs.Server.{Server, sends, follows, appended, advances, advances_at_tail, enters, may_enter, enters_new, requested, after_request, missing, after_append, acknowledges, feeds, after_ack, most_waiting, is_for_tail, refer_packet, waits, asked_in, after_ask, viewed, is_member, is_at_tail, is_first, is_server, acknowledged, ack, prev, next, window, reply_packet, from_client, from_server, from_manager, taken_from, server_ticks, viewing, are_same, may_adopt, adopts, after_view}
+use Rattle.kr_protocol.specs.Server.{Server, sends, follows, appended, advances, advances_at_tail, enters, may_enter, enters_new, requested, after_request, missing, after_append, acknowledges, after_ack, most_waiting, is_for_tail, refer_packet, waits, asked_in, after_ask, viewed, is_member, is_at_tail, is_first, is_server, acknowledged, ack, prev, next, window, reply_packet, from_client, from_server, from_manager, taken_from, server_ticks, viewing, may_adopt, adopts, after_view, hears}
 use Rattle.kr_protocol.specs.Laws.{RepeatsChangeNothing}
 
 -- a command in the log is none of greater number
@@ -159,7 +159,7 @@ acknowledges_keeps server upto = by_test (ltb server.done upto)
 ack_keeps : (server : Server) (from : ServerId) (done len : ℕ) → (after_ack server from done len).after.log ≡ server.log
 ack_keeps server from done len = by_test (is_server (next server) from)
   where
-    by_test : (test : Bool) → (cond test (follows (acknowledges server (min done (length server.log))) (λ after. feeds after (min len (length after.log)))) (ignored server)).after.log ≡ server.log
+    by_test : (test : Bool) → (cond test (hears server from done len) (ignored server)).after.log ≡ server.log
     by_test true = acknowledges_keeps server (min done (length server.log))
     by_test false = refl
 
@@ -191,19 +191,12 @@ server_again server from (Ack done len) = ack_keeps (after_ack server from done 
 server_again server from other = refl
 
 -- another view leaves the log as it is
-pub viewing_log : (server : Server) (view : View) → (viewing server view).log ≡ server.log
-viewing_log server view = by_test (are_same (next server) (next (record server { view = Some view })))
-  where
-    by_test : (same : Bool) → (cond same (record server { view = Some view }) (record server { view = Some view; fed = 0 })).log ≡ server.log
-    by_test true = refl
-    by_test false = refl
-
 view_keeps : (server : Server) (view : View) → (after_view server view).after.log ≡ server.log
 view_keeps server view = by_test (may_adopt server view)
   where
     by_tail : (tail : Bool) → (follows (cond tail (advances (viewing server view) (length (viewing server view).log)) (sends (viewing server view) [])) server_ticks).after.log ≡ server.log
-    by_tail true = viewing_log server view
-    by_tail false = viewing_log server view
+    by_tail true = refl
+    by_tail false = refl
 
     by_test : (adopted : Bool) → (cond adopted (adopts server view) (ignored server)).after.log ≡ server.log
     by_test true = by_tail (is_at_tail (viewing server view))

@@ -1,5 +1,5 @@
 -- One server of a chain: what it does with each message, and when it works.
-use Rattle.std.specs.Prelude.{length, map, take, drop, min, max, nat_le, ℕ, ◌+◌, ◌-◌, List, [], ◌∷◌, ◌++◌, ◌==◌, nat_lt, find, is_some, Bool, true, false, not, ◌&&◌, ◌||◌, if◌then◌else◌, Option, None, Some}
+use Rattle.std.specs.Prelude.{length, map, take, drop, min, max, nat_le, ℕ, ◌+◌, ◌-◌, List, [], ◌∷◌, ◌++◌, ◌==◌, nat_lt, find, is_some, is_none, Bool, true, false, not, ◌&&◌, ◌||◌, if◌then◌else◌, Option, None, Some}
 use Rattle.kr_order.specs.declared.ids.ClientId.{ClientId}
 use Rattle.kr_order.specs.declared.ids.ServerId.{ServerId}
 use Rattle.kr_order.specs.declared.ids.EventId.{EventId}
@@ -12,28 +12,34 @@ use Rattle.kr_order.specs.declared.history.DoneEntry.{DoneEntry}
 use Rattle.kr_order.specs.declared.message.Node as nodes
 use Rattle.kr_order.specs.declared.message.Node.TheVariants.{Manager, Client, Server as FromServer}
 use Rattle.kr_order.specs.declared.message.Message.{Message}
-use Rattle.kr_order.specs.declared.message.Message.TheVariants.{Request, Append, Ack, NewView, Replied, Ask, Answered, Refer}
+use Rattle.kr_order.specs.declared.message.Message.TheVariants.{Request, Append, Ack, NewView, Replied, Ask, Answered, Refer, Joined}
 use Rattle.kr_order.specs.declared.message.Packet.{Packet}
 use Rattle.kr_order.specs.declared.view.View.{View}
 use Rattle.kr_order.specs.History.{highest_seq}
 use Rattle.kr_order.specs.Done.{done_of, last_of}
-use Rattle.kr_order.specs.View.{in_chain, next_of, prev_of, is_tail, is_head}
+use Rattle.kr_order.specs.View.{in_chain, last_member, next_of, prev_of, is_tail, is_head}
 use Rattle.kr_protocol.specs.Reaction.{Reaction, ignored}
 use Rattle.kr_protocol.specs.Manager.{names}
 
 -- a server: the commands in its log, how many of them are acknowledged, the view that it has adopted, how many
--- entries the next server is known to have, and the queries that wait
+-- entries the next server is known to have, how many a joiner behind it has to have before it may become a member, and
+-- the queries that wait
 pub record Server : Type 0 where
   pub id : ServerId
   pub log : List Entry
   pub done : ℕ
   pub view : Option View
   pub fed : ℕ
+  pub need : ℕ
   pub waiting : List Query
 
 -- a server of the first view, with nothing in its log
 abbrev pub founder : View → ServerId → Server
-founder view id = record { id = id; log = []; done = 0; view = Some view; fed = 0; waiting = [] }
+founder view id = record { id = id; log = []; done = 0; view = Some view; fed = 0; need = 0; waiting = [] }
+
+-- a server that is to join: it has nothing in its log, and no view
+abbrev pub newcomer : ServerId → Server
+newcomer id = record { id = id; log = []; done = 0; view = None; fed = 0; need = 0; waiting = [] }
 
 -- the acknowledged prefix of its log: all that it has applied, and answers from
 abbrev pub acknowledged : Server → List Entry
@@ -77,6 +83,14 @@ sends server sent = record { after = server; sent = sent }
 abbrev pub follows : Reaction Server → (Server → Reaction Server) → Reaction Server
 follows first goes_on =
     let second = goes_on first.after in sends second.after (first.sent ++ second.sent)
+
+-- the joiner behind a server, where this one is the last member of the view
+abbrev pub joiner_behind : View → ServerId → Option ServerId
+joiner_behind view id = if is_server (last_member view) id then view.joiner else None
+
+-- the joiner that the server feeds
+abbrev pub behind : Server → Option ServerId
+behind server = viewed None joiner_behind server.view server.id
 
 -- so many entries are sent at once at the most
 abbrev pub most_entries : ℕ
@@ -203,10 +217,23 @@ feeds server upto =
     let after = record server { fed = max server.fed upto } in
     sends after (if nat_lt server.fed upto && nat_lt upto (length server.log) then window after else [])
 
+-- the manager is told that the joiner has caught up
+abbrev pub joined_packet : Server → ServerId → Packet
+joined_packet server joiner = record { from = FromServer server.id; to = Manager; message = Joined joiner }
+
+-- a joiner that has what it has to have may become a member
+abbrev pub tells_joined : Server → ServerId → ℕ → Reaction Server
+tells_joined server from len =
+    sends server (if is_server (behind server) from && nat_le server.need len then joined_packet server from ∷ [] else [])
+
+-- what the next server says of itself: what is acknowledged to it, and what it has
+abbrev pub hears : Server → ServerId → ℕ → ℕ → Reaction Server
+hears server from done len =
+    follows (follows (acknowledges server (min done (length server.log))) (λ after. feeds after (min len (length after.log)))) (λ after. tells_joined after from len)
+
 -- an acknowledgement counts where the next server sent it
 abbrev pub after_ack : Server → ServerId → ℕ → ℕ → Reaction Server
-after_ack server from done len =
-    if is_server (next server) from then follows (acknowledges server (min done (length server.log))) (λ after. feeds after (min len (length after.log))) else ignored server
+after_ack server from done len = if is_server (next server) from then hears server from done len else ignored server
 
 -- a server whose time has come tells the server before it what it has, and the one behind it what that may lack
 abbrev pub server_ticks : Server → Reaction Server
@@ -224,11 +251,17 @@ are_same None (Some other) = false
 are_same (Some one) None = false
 are_same (Some one) (Some other) = one.0 == other.0
 
+-- how many entries a joiner has to have, by the view that the server has then: what it had when the server first saw
+-- that it joins
+abbrev pub need_then : Server → Server → ℕ
+need_then server after =
+    if is_none (behind after) || are_same (behind server) (behind after) then server.need else length server.log
+
 -- the server with another view: where another follows it by that, this one is not known to have any entry
 abbrev pub viewing : Server → View → Server
 viewing server view =
     let after = record server { view = Some view } in
-    if are_same (next server) (next after) then after else record after { fed = 0 }
+    record after { fed = if are_same (next server) (next after) then server.fed else 0; need = need_then server after }
 
 -- a view counts where it is newer than the server's own and names the server
 abbrev pub may_adopt : Server → View → Bool

@@ -1,7 +1,7 @@
 -- What a server does when it adopts a view.
-use Rattle.std.proofs.Common.{◌≡◌, ℕ, ◌+◌, ◌-◌, ◌≤◌, ◌<◌, Bool, true, false, cond, ltb, [], ◌++◌, length, take, refl, sym, ap, ◌∙◌, subst, arith}
-use Rattle.std.specs.Prelude.{None, Some, All}
-use Rattle.std.proofs.lemmas.Bool.{and_parts, ltb-true, false≢true}
+use Rattle.std.proofs.Common.{◌≡◌, ℕ, ◌+◌, ◌-◌, ◌≤◌, ◌<◌, Bool, true, false, cond, ltb, [], ◌++◌, length, take, refl, sym, ap, ◌∙◌, subst, arith, ◌||◌, inl, inr}
+use Rattle.std.specs.Prelude.{None, Some, All, Option, is_none}
+use Rattle.std.proofs.lemmas.Bool.{and_parts, ltb-true, false≢true, eq-eqb, eqb-true}
 use Rattle.std.proofs.lemmas.List.{length-append}
 use Rattle.std.proofs.lemmas.List.Elements.{All-append, All-weaker}
 use Rattle.kr_order.specs.declared.ids.ServerId.{ServerId}
@@ -11,16 +11,20 @@ use Rattle.kr_order.specs.View.{prev_of, is_tail}
 use Rattle.kr_order.proofs.PrefixLemmas.{IsPrefix-refl}
 use Rattle.kr_protocol.specs.Manager.{names}
 use Rattle.kr_protocol.specs.Reaction.{Reaction}
-use Rattle.kr_protocol.specs.Server.{Server, viewed, sends, follows, is_at_tail, prev, next, ack, window, advances, advances_at_tail, server_ticks, view_number, are_same, may_adopt, adopts}
+use Rattle.kr_protocol.specs.Server.{Server, viewed, sends, follows, is_at_tail, prev, next, ack, window, advances, advances_at_tail, server_ticks, view_number, are_same, may_adopt, adopts, joiner_behind, behind, need_then}
 use Rattle.kr_protocol.proofs.TimelineLemmas.{IsListed}
 use Rattle.kr_world.specs.World.{World, is_stopped}
-use Rattle.kr_world.proofs.ChainLemmas.{chain_of, rise}
+use Rattle.kr_world.proofs.ChainLemmas.{same_server, chain_of, rise}
 use Rattle.kr_world.proofs.SeatLemmas.{IsSeated, own_of}
 use Rattle.kr_world.proofs.SaidLemmas.{IsSaid}
-use Rattle.kr_world.proofs.BoundsLemmas.{IsWithinBounds}
+use Rattle.kr_world.proofs.BoundsLemmas.{IsNeeded, IsWithinBounds}
 use Rattle.kr_world.proofs.ShapeLemmas.{IsSent, IsCounted}
 use Rattle.kr_world.proofs.SendLemmas.{replies_few, replies_sent, window_few, window_sent, ack_few, ack_sent}
 use Rattle.kr_world.proofs.WithinLemmas.{sent_said}
+
+same_servers : (one : Option ServerId) (other : ServerId) → are_same one (Some other) ≡ true → one ≡ Some other
+same_servers None other is = absurd (false≢true is)
+same_servers (Some one) other is = ap (λ s. Some s) (same_server one other (eqb-true one.0 other.0 is))
 
 -- it has another view, has fed no more than its log has, and has acknowledged all where it is the tail by that
 pub record IsAdoption (server : Server) (view : View) (reaction : Reaction Server) : Type 0 where
@@ -29,26 +33,27 @@ pub record IsAdoption (server : Server) (view : View) (reaction : Reaction Serve
   pub log : reaction.after.log ≡ server.log
   pub waiting : reaction.after.waiting ≡ server.waiting
   pub fed : reaction.after.fed ≤ length server.log
+  pub need : reaction.after.need ≡ need_then server (record server { view = Some view })
   pub tail : is_tail view server.id ≡ true → reaction.after.done ≡ length server.log
   pub other : is_tail view server.id ≡ false → reaction.after.done ≡ server.done
-  pub sent : All (IsSent server reaction.after) reaction.sent
+  pub sent : All (IsSent None server reaction.after) reaction.sent
   pub few : length reaction.sent ≤ length server.log + 2
 
 -- with so many entries known to be there behind it
 adopts_so :
     (server : Server) (view : View) (fed : ℕ)
     → fed ≤ length server.log
-    → IsAdoption server view (follows (advances_at_tail (record server { view = Some view; fed = fed })) server_ticks)
+    → IsAdoption server view (follows (advances_at_tail (record server { view = Some view; fed = fed; need = need_then server (record server { view = Some view }) })) server_ticks)
 adopts_so server view fed within = by_tail (is_tail view server.id) refl
   where
     seeing : Server
-    seeing = record server { view = Some view; fed = fed }
+    seeing = record server { view = Some view; fed = fed; need = need_then server (record server { view = Some view }) }
 
     n : ℕ
     n = length server.log
 
-    behind : (after : Server) → All (IsSent server after) (ack after ++ window after)
-    behind after = All-append (IsSent server after) (ack after) (window after) (ack_sent server after (prev after)) (window_sent server after)
+    behind : (after : Server) → All (IsSent None server after) (ack after ++ window after)
+    behind after = All-append (IsSent None server after) (ack after) (window after) (ack_sent None server after (prev after)) (window_sent None server after)
 
     by_tail : (tail : Bool) → is_tail view server.id ≡ tail → IsAdoption server view (follows (cond tail (advances seeing n) (sends seeing [])) server_ticks)
     by_tail true is =
@@ -61,9 +66,10 @@ adopts_so server view fed within = by_tail (is_tail view server.id) refl
           log = refl;
           waiting = refl;
           fed = within;
+          need = refl;
           tail = λ tail. refl;
           other = λ other. absurd (false≢true (sym other ∙ is));
-          sent = All-append (IsSent server after) replies (ack after ++ window after) (replies_sent server seeing n) (behind after);
+          sent = All-append (IsSent None server after) replies (ack after ++ window after) (replies_sent None server seeing n) (behind after);
           few = omega (arith, length-append replies (ack after ++ window after), length-append (ack after) (window after), ack_few after (prev after), window_few after);
         }
     by_tail false is =
@@ -73,6 +79,7 @@ adopts_so server view fed within = by_tail (is_tail view server.id) refl
           log = refl;
           waiting = refl;
           fed = within;
+          need = refl;
           tail = λ tail. absurd (false≢true (sym is ∙ tail));
           other = λ other. refl;
           sent = behind seeing;
@@ -82,7 +89,7 @@ adopts_so server view fed within = by_tail (is_tail view server.id) refl
 pub adoption_of : (server : Server) (view : View) → IsCounted server → IsAdoption server view (adopts server view)
 adoption_of server view counted = by_same (are_same (next server) (next (record server { view = Some view })))
   where
-    by_same : (same : Bool) → IsAdoption server view (follows (advances_at_tail (cond same (record server { view = Some view }) (record server { view = Some view; fed = 0 }))) server_ticks)
+    by_same : (same : Bool) → IsAdoption server view (follows (advances_at_tail (record server { view = Some view; fed = cond same server.fed 0; need = need_then server (record server { view = Some view }) })) server_ticks)
     by_same true = adopts_so server view server.fed counted.fed
     by_same false = adopts_so server view 0 (omega arith)
 
@@ -106,10 +113,12 @@ adopts_within world id server view seat listed may =
     let fed = its.fed in
     let done = own.done in
     let at_done : is_at_tail after ≡ is_tail view server.id = ap (λ v. viewed false is_tail v after.id) its.view_is ∙ ap (is_tail view) its.id in
+    let behind_is : behind after ≡ joiner_behind view server.id = ap (λ v. viewed None joiner_behind v after.id) its.view_is ∙ ap (joiner_behind view) its.id in
     let before : prev after ≡ prev_of view server.id = ap (λ v. viewed None prev_of v after.id) its.view_is ∙ ap (prev_of view) its.id in
     record {
       id = its.id;
-      own_view = record { view = view; adopted = its.view_is; listed = listed; named = ap (names view) its.id ∙ tests.1 };
+      own_view = inl (record { view = view; adopted = its.view_is; listed = listed; named = ap (names view) its.id ∙ tests.1 });
+      need = λ joiner is. by_need joiner (are_same (behind server) (joiner_behind view server.id)) refl (sym behind_is ∙ is) its.need;
       no_older = omega arith;
       grows = subst (λ l. IsPrefix server.log l) (sym its.log) (IsPrefix-refl server.log);
       below = λ j other there is. subst (λ l. IsPrefix l other.log) (sym its.log)
@@ -123,9 +132,18 @@ adopts_within world id server view seat listed may =
       counted = omega arith;
       most = omega arith;
       gained = omega arith;
-      sent = All-weaker (IsSent server after) (IsSaid after) (λ packet sent. sent_said server after packet sent) reaction.sent its.sent;
+      sent = All-weaker (IsSent None server after) (IsSaid world.servers after) (λ packet sent. sent_said world None server after packet tt sent) reaction.sent its.sent;
     }
   where
+    by_need : (joiner : ServerId) (same : Bool) → are_same (behind server) (joiner_behind view server.id) ≡ same → joiner_behind view server.id ≡ Some joiner
+        → (adopts server view).after.need ≡ need_then server (record server { view = Some view }) → IsNeeded server (adopts server view).after joiner
+    by_need joiner true same is need =
+        let both = ap (are_same (behind server)) (sym is) ∙ same in
+        inl (same_servers (behind server) joiner both, need ∙ ap (λ test. cond test server.need (length server.log)) (ap (λ j. is_none j || are_same (behind server) j) is ∙ both))
+    by_need joiner false same is need =
+        let both = ap (are_same (behind server)) (sym is) ∙ same in
+        inr ((λ before. false≢true (sym both ∙ ap (λ a. are_same a (Some joiner)) before ∙ eq-eqb joiner.0 joiner.0 refl)), need ∙ ap (λ test. cond test server.need (length server.log)) (ap (λ j. is_none j || are_same (behind server) j) is ∙ both))
+
     by_done : (tail : Bool) → is_tail view server.id ≡ tail → IsAdoption server view (adopts server view) → server.done ≤ length server.log → server.done ≤ (adopts server view).after.done
     by_done true is its done = omega (arith, its.tail is)
     by_done false is its done = omega (arith, its.other is)

@@ -11,8 +11,8 @@ use Rattle.kr_order.proofs.PrefixLemmas.{IsPrefix-trans, IsPrefix-take}
 use Rattle.kr_protocol.specs.Server.{Server, acknowledged, is_at_tail, is_server, next}
 use Rattle.kr_world.specs.World.{World, is_stopped}
 use Rattle.kr_world.specs.Sound.{HasSoMany}
-use Rattle.kr_world.proofs.ChainLemmas.{chain_of, follower_below}
-use Rattle.kr_world.proofs.SeatLemmas.{IsSeated, own_of, sender_is, some_server, next_not_tail}
+use Rattle.kr_world.proofs.ChainLemmas.{chain_of, follower_below, some_one}
+use Rattle.kr_world.proofs.SeatLemmas.{IsSeated, own_of, sender_is, next_not_tail}
 use Rattle.kr_world.proofs.ShapeLemmas.{Acknowledges, done_stays, done_before, done_all, done_told}
 use Rattle.kr_world.proofs.BelowLemmas.{IsSoundCame}
 
@@ -28,7 +28,7 @@ agreed_next world id server from done len upto seat said taken le =
     let sender = said.sender in
     let its = seat.sound.servers (from.0 - 1) sender said.there in
     let follows : next server ≡ Some sender.id =
-    some_server (next server) from taken ∙ ap (λ s. Some s) (sym (sender_is world from sender seat.sound said.there said.from_low)) in
+    some_one (next server) from taken ∙ ap (λ s. Some s) (sym (sender_is world from sender seat.sound said.there said.from_low)) in
     let front : IsPrefix sender.log server.log =
     follower_below (is_stopped world) world.manager world.servers (chain_of world seat.sound) (id.0 - 1) (from.0 - 1) server sender seat.at said.there seat.runs follows in
     let so_far = said.done_so_far in
@@ -72,7 +72,7 @@ agreed_so world id old came more done seat said (done_all any gained tail) =
       full = λ tail. refl;
     }
 agreed_so world id old came more done seat said (done_told from to told len upto taken news le within) =
-    let middle = next_not_tail old.view old.id from (some_server (next old) from taken) in
+    let middle = next_not_tail old.view old.id from (some_one (next old) from taken) in
     let agreed : IsAgreed world old old.log done =
     record {
       grows = omega arith;

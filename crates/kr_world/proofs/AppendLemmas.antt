@@ -18,10 +18,10 @@ use Rattle.kr_world.proofs.TurnLemmas.{ignored_shape}
 
 -- what is sent behind the replies: an acknowledgement, and a window
 behind_sent :
-    (old after : Server) (from : ServerId) (entries : List Entry)
-    → All (IsSent old after) (ack_to after (Some from) ++ passes_on after entries)
-behind_sent old after from entries =
-    All-append (IsSent old after) (ack_to after (Some from)) (passes_on after entries) (ack_sent old after (Some from)) (passes_sent old after entries)
+    (came : Option Packet) (old after : Server) (from : ServerId) (entries : List Entry)
+    → All (IsSent came old after) (ack_to after (Some from) ++ passes_on after entries)
+behind_sent came old after from entries =
+    All-append (IsSent came old after) (ack_to after (Some from)) (passes_on after entries) (ack_sent came old after (Some from)) (passes_sent came old after entries)
 
 -- entries at the end of the tail's log are acknowledged
 taken_at_tail :
@@ -42,13 +42,14 @@ taken_at_tail server came from entries gains tail =
     record {
       id = refl;
       view = refl;
+      need = refl;
       more = entries;
       log = refl;
       gains = gains;
       done = done_all came entries tail;
       fed = omega arith;
       waiting = waits_on came;
-      sent = All-append (IsSent server after) replies behind (replies_sent server grown upto) (behind_sent server after from entries);
+      sent = All-append (IsSent came server after) replies behind (replies_sent came server grown upto) (behind_sent came server after from entries);
       replies = upto - server.done;
       middle = λ other. absurd (false≢true (sym other ∙ tail));
       newly = omega arith;
@@ -70,13 +71,14 @@ taken_before server came from entries gains tail =
     record {
       id = refl;
       view = refl;
+      need = refl;
       more = entries;
       log = refl;
       gains = gains;
       done = done_before came entries tail;
       fed = omega arith;
       waiting = waits_on came;
-      sent = behind_sent server after from entries;
+      sent = behind_sent came server after from entries;
       replies = 0;
       middle = λ other. refl;
       newly = omega arith;

@@ -16,7 +16,8 @@ use Rattle.kr_protocol.specs.Server.{Server, most_entries, viewed, is_first, is_
 use Rattle.kr_world.specs.World.{World}
 use Rattle.kr_world.specs.Sound.{AreInLog, IsSoundPacket}
 use Rattle.kr_world.proofs.ReceiveLemmas.{receives, missing_few}
-use Rattle.kr_world.proofs.SeatLemmas.{IsSeated, own_of, sender_is, one_before, some_server}
+use Rattle.kr_world.proofs.ChainLemmas.{some_one}
+use Rattle.kr_world.proofs.SeatLemmas.{IsSeated, own_of, sender_is, one_before}
 use Rattle.kr_world.proofs.ShapeLemmas.{Gains, gains_none, gains_command, gains_entries, IsCounted}
 
 -- what came is true
@@ -49,7 +50,7 @@ pub append_below :
 append_below world id server from first entries seat said is =
     let sender = said.sender in
     let named : prev server ≡ Some sender.id =
-    some_server (prev server) from is ∙ ap (λ s. Some s) (sym (sender_is world from sender seat.sound said.there said.from_low)) in
+    some_one (prev server) from is ∙ ap (λ s. Some s) (sym (sender_is world from sender seat.sound said.there said.from_low)) in
     let below = (own_of world id server seat).below (from.0 - 1) sender said.there named in
     receives server.log sender.log entries first below said.first_low said.stand
 
@@ -69,7 +70,7 @@ gained_below world id server came more seat said (gains_command client to seq co
     let first = (and_parts (is_first server) (ltb (highest_seq client server.log) seq) may).0 in
     absurd (none-some before.id (sym (head_first server.view server.id first) ∙ is))
 gained_below world id server came more seat said (gains_entries from to first entries taken) j before there is =
-    let same = one_before world server from said.sender seat.sound said.there said.from_low (some_server (prev server) from taken) j before there is in
+    let same = one_before world server from said.sender seat.sound said.there said.from_low (some_one (prev server) from taken) j before there is in
     subst (λ (s : Server). IsPrefix (server.log ++ missing server.log first entries) s.log) same (append_below world id server from first entries seat said taken)
 
 -- no more entries come than a packet has

@@ -1,25 +1,31 @@
 -- What bounds a server keeps to when it goes on, whatever it does.
-use Rattle.std.proofs.Common.{◌≡◌, ℕ, ◌+◌, ◌-◌, ◌*◌, ◌≤◌, true, false, length, set, ap, ◌∙◌}
+use Rattle.std.proofs.Common.{◌≡◌, ◌≢◌, ◌⊎◌, ℕ, ◌+◌, ◌-◌, ◌*◌, ◌≤◌, true, false, length, set, ap, ◌∙◌}
 use Rattle.std.specs.Prelude.{Some, slice_get, All}
 use Rattle.kr_order.specs.declared.ids.ServerId.{ServerId}
 use Rattle.kr_order.specs.Prefix.{IsPrefix}
 use Rattle.kr_order.proofs.PrefixLemmas.{IsPrefix-refl, IsPrefix-trans}
 use Rattle.kr_protocol.specs.Manager.{views_of}
 use Rattle.kr_protocol.specs.Reaction.{Reaction}
-use Rattle.kr_protocol.specs.Server.{Server, most_entries, most_waiting, acknowledged, is_at_tail, prev, view_number}
+use Rattle.kr_protocol.specs.Server.{Server, most_entries, most_waiting, acknowledged, is_at_tail, prev, behind, view_number}
 use Rattle.kr_world.specs.World.{World}
-use Rattle.kr_world.specs.Sound.{IsOwnView, IsBelowPredecessor}
+use Rattle.kr_world.specs.Sound.{IsViewed, IsBelowPredecessor}
 use Rattle.kr_world.proofs.ListFacts.{each_after_set}
 use Rattle.kr_world.proofs.ChainLemmas.{chain_of}
 use Rattle.kr_world.proofs.SeatLemmas.{IsSeated}
 use Rattle.kr_world.proofs.SaidLemmas.{IsSaid}
 
+-- what a joiner behind it has to have: as before where that one stood there before, and else all that the server had
+abbrev pub IsNeeded : Server → Server → ServerId → Type 0
+IsNeeded old after joiner =
+    ((behind old ≡ Some joiner) × (after.need ≡ old.need)) ⊎ ((behind old ≢ Some joiner) × (after.need ≡ length old.log))
+
 -- what a server of the world may do
 pub record IsWithinBounds (world : World) (old : Server) (reaction : Reaction Server) : Type 0 where
   pub id : reaction.after.id ≡ old.id
   -- it has a view of the manager's, no older than before
-  pub own_view : IsOwnView (views_of world.manager) reaction.after
+  pub own_view : IsViewed (views_of world.manager) reaction.after
   pub no_older : view_number old.view ≤ view_number reaction.after.view
+  pub need : (joiner : ServerId) → behind reaction.after ≡ Some joiner → IsNeeded old reaction.after joiner
   pub grows : IsPrefix old.log reaction.after.log
   -- it takes no more than the server before it has
   pub below :
@@ -37,7 +43,7 @@ pub record IsWithinBounds (world : World) (old : Server) (reaction : Reaction Se
   pub counted : length reaction.after.log ≤ length old.log + most_entries * length reaction.sent
   pub most : length reaction.sent ≤ most_waiting + length reaction.after.log
   pub gained : length reaction.after.log ≤ length old.log + most_entries
-  pub sent : All (IsSaid reaction.after) reaction.sent
+  pub sent : All (IsSaid world.servers reaction.after) reaction.sent
 
 -- no server has more in its log than the one before it when one of them has gone on
 pub below_after :

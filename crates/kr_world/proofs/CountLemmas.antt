@@ -13,21 +13,22 @@ use Rattle.kr_order.specs.declared.history.Placed.{Placed}
 use Rattle.kr_order.specs.declared.message.Node as nodes
 use Rattle.kr_order.specs.declared.message.Node.TheVariants.{Manager, Client as ToClient, Server as ToServer}
 use Rattle.kr_order.specs.declared.message.Message.{Message}
-use Rattle.kr_order.specs.declared.message.Message.TheVariants.{Replied, Answered, Refer}
+use Rattle.kr_order.specs.declared.message.Message.TheVariants.{Replied, Answered, Refer, Joined}
 use Rattle.kr_order.specs.declared.message.Packet.{Packet}
 use Rattle.kr_order.specs.declared.view.View.{View}
 use Rattle.kr_protocol.specs.Server.{Server}
 use Rattle.kr_protocol.specs.Client.{Client, new_client, unheard, closes, after_reply, may_answer_all, answered, after_answers, answers_from, turns_to, after_refer, message_to, client_takes, begins, asks, learns}
 use Rattle.script_lang.specs.declared.script.Event.{Event}
-use Rattle.script_lang.specs.declared.script.Event.TheVariants.{Call, Query, Retry, Deliver, Lose, Tick, Work, Stop, Notice, Show, Learn}
+use Rattle.script_lang.specs.declared.script.Event.TheVariants.{Call, Query, Retry, Deliver, Lose, Tick, Work, Stop, Notice, Show, Join, Learn}
 use Rattle.kr_world.specs.declared.refusal.Refusal.{Refusal}
 use Rattle.kr_order.specs.View.{first_view}
 use Rattle.kr_order.specs.Numbers.{numbers_to}
 use Rattle.kr_world.specs.World.{World, first_world, client_at, server_at, packet_at, marked}
-use Rattle.kr_world.specs.Step.{Outcome, refusal_of, client_calls, client_asks, client_retries, arrives_at_client, arrives_at_server, arrives, delivers, works, ticks, ticks_at, shows, act, unless, notices, learns_view}
+use Rattle.kr_world.specs.Step.{Outcome, refusal_of, client_calls, client_asks, client_retries, arrives_at_client, arrives_at_server, arrives, delivers, works, ticks, ticks_at, shows, act, unless, notices, learns_view, quiet, manager_tells, joined_at_manager, told_by_server, arrives_at_manager}
 use Rattle.kr_world.specs.Sound.{HaveBegun, QueriesAreCounted}
 use Rattle.kr_world.proofs.ListFacts.{all_of}
 use Rattle.kr_world.proofs.StepLemmas.{at_index}
+use Rattle.kr_protocol.specs.Manager.{may_promote, promotes}
 
 -- what a client hears begins no query
 reply_q : (client : Client) (call : Option Command) (seq : ℕ) (placed : Placed) → (after_reply client call seq placed).after.q ≡ client.q
@@ -115,9 +116,25 @@ takes_count : (n : ℕ) (world : World) (id : ServerId) (packet : Packet) (found
 takes_count n world id packet None known = count_on n world.clients known
 takes_count n world id packet (Some server) known = count_on n world.clients known
 
+joined_count : (n : ℕ) (world : World) (from joiner : ServerId) → HaveBegun n world.clients → CountsOn n (joined_at_manager world from joiner)
+joined_count n world from joiner known = by_test (may_promote world.manager.current from joiner)
+  where
+    by_test : (test : Bool) → CountsOn n (cond test (manager_tells world (promotes world.manager joiner)) (quiet world))
+    by_test true = count_on n world.clients known
+    by_test false = count_on n world.clients known
+
+told_count : (n : ℕ) (world : World) (from : ServerId) (message : Message) → HaveBegun n world.clients → CountsOn n (told_by_server world from message)
+told_count n world from (Joined joiner) known = joined_count n world from joiner known
+told_count n world from other known = count_on n world.clients known
+
+manager_count : (n : ℕ) (world : World) (from : nodes.Node) (message : Message) → HaveBegun n world.clients → CountsOn n (arrives_at_manager world from message)
+manager_count n world Manager message known = count_on n world.clients known
+manager_count n world (ToClient client) message known = count_on n world.clients known
+manager_count n world (ToServer server) message known = told_count n world server message known
+
 arrives_count : (n : ℕ) (world : World) (to : nodes.Node) (packet : Packet) → HaveBegun n world.clients
     → CountsOn n (arrives world to packet)
-arrives_count n world Manager packet known = count_on n world.clients known
+arrives_count n world Manager packet known = manager_count n world packet.from packet.message known
 arrives_count n world (ToClient client) packet known = hears_count n world client packet (client_at world client) refl known
 arrives_count n world (ToServer server) packet known = takes_count n world server packet (server_at world server) known
 
@@ -162,6 +179,7 @@ act_count n world (Work server workers) known = works_count n world server (serv
 act_count n world (Stop server) known = count_on n world.clients known
 act_count n world (Notice server) known = notices_count n world (server_at world server) known
 act_count n world (Show server) known = shows_count n world server (server_at world server) known
+act_count n world Join known = count_on n world.clients known
 act_count n world (Learn client) known = learns_count n world client (client_at world client) refl known
 
 pub queries_counted : QueriesAreCounted

@@ -1,6 +1,6 @@
 -- What a server sends is true.
 use Rattle.std.proofs.Common.{◌≡◌, ◌-◌, ◌≤◌, List, [], ◌∷◌, ◌++◌, length, take, sym, ap, ◌∙◌, subst, arith}
-use Rattle.std.specs.Prelude.{All, Contains}
+use Rattle.std.specs.Prelude.{Option, All, Contains}
 use Rattle.std.proofs.lemmas.List.{append_assoc, length-take-le}
 use Rattle.std.proofs.lemmas.List.Elements.{All-nil, All-cons, All-head, All-tail, All-take, All-contains}
 use Rattle.kr_order.specs.declared.ids.ServerId.{ServerId}
@@ -19,7 +19,7 @@ use Rattle.kr_world.specs.Facts.{StandsAt, IsTrueQuery, IsTrueServer, IsTruePack
 use Rattle.kr_world.proofs.StepLemmas.{at_index}
 use Rattle.kr_world.proofs.SeatLemmas.{IsSeated, own_of}
 use Rattle.kr_world.proofs.ReactionLemmas.{tail_log}
-use Rattle.kr_world.proofs.ShapeLemmas.{IsSent, sends_reply, sends_ack, sends_window, sends_answer, sends_view}
+use Rattle.kr_world.proofs.ShapeLemmas.{IsSent, sends_reply, sends_ack, sends_window, sends_answer, sends_view, sends_joined}
 use Rattle.kr_world.proofs.PacketLemmas.{stands_later, entry_stands}
 
 -- a server takes its turn in a sound world that has the facts
@@ -83,13 +83,14 @@ pub record IsKnown (world : World) (now : List Entry) (after : Server) : Type 0 
   pub callers : All (λ entry. 1 ≤ entry.client.0) after.log
 
 -- each packet that a server may send is true
-pub sent_true : (past : List Turn) (world : World) (id : ServerId) (old after : Server) (now : List Entry)
-    → IsMoment past world id old → IsKnown world now after → (packet : Packet) → IsSent old after packet
+pub sent_true : (past : List Turn) (world : World) (id : ServerId) (came : Option Packet) (old after : Server) (now : List Entry)
+    → IsMoment past world id old → IsKnown world now after → (packet : Packet) → IsSent came old after packet
     → IsTruePacket past now packet
-sent_true past world id old after now moment known packet (sends_reply done among) =
+sent_true past world id came old after now moment known packet (sends_reply done among) =
     done_stands (acknowledged after) now done (All-take (λ e. 1 ≤ e.client.0) after.done after.log known.callers) known.agreed among
-sent_true past world id old after now moment known packet (sends_ack to) = tt
-sent_true past world id old after now moment known packet (sends_window to) = tt
-sent_true past world id old after now moment known packet (sends_answer query among) =
+sent_true past world id came old after now moment known packet (sends_ack to) = tt
+sent_true past world id came old after now moment known packet (sends_window to) = tt
+sent_true past world id came old after now moment known packet (sends_answer query among) =
     answer_true past world id old now query moment known.grown (All-contains (IsTrueQuery past world.history) old.waiting query (own_true past world id old moment).waiting among)
-sent_true past world id old after now moment known packet (sends_view view query) = tt
+sent_true past world id came old after now moment known packet (sends_view view query) = tt
+sent_true past world id came old after now moment known packet (sends_joined from to done len is behind enough) = tt

@@ -29,7 +29,7 @@ founder_sound :
 founder_sound n i lt =
     record {
       id = refl;
-      own_view = record { view = first_view n; adopted = refl; listed = refl; named = member_is_named (first_view n) (server_id (i + 1)) (in_first_view n i lt) };
+      own_view = inl (record { view = first_view n; adopted = refl; listed = refl; named = member_is_named (first_view n) (server_id (i + 1)) (in_first_view n i lt) });
       done = omega arith;
       fed = omega arith;
       below = λ j before there is. IsPrefix-nil before.log;
@@ -69,6 +69,7 @@ first_is_sound servers clients some few =
           subst (IsSoundServer (view ∷ []) (founders servers) [] 0 i) at.1 (founder_sound servers i at.0);
       last_holds = λ id server is there. IsPrefix-nil server.log;
       old_tails = λ k old tail server listed none last there. inl (subst (λ v. last_member v ≡ Some tail) (sym (only_view servers k old listed)) last);
+      need_covers = λ joiner last server joins ends there stands. absurd (none-some joiner joins);
       packets = All-nil (IsSoundPacket (view ∷ []) (founders servers));
       calls = All-map (λ c. c.seq ≤ 0) make (numbers_to clients) (all_of (λ m. (make m).seq ≤ 0) (λ m. omega arith) (numbers_to clients));
       bag = omega arith;

@@ -1,5 +1,5 @@
 -- Where the bag is full, steps that may send are refused.
-use Rattle.std.proofs.Common.{◌≡◌, ℕ, true, false, List, refl, ap, ◌∙◌}
+use Rattle.std.proofs.Common.{◌≡◌, ℕ, true, false, List, refl, ap, ◌∙◌, ◌<◌}
 use Rattle.std.specs.Prelude.{None, Some}
 use Rattle.kr_order.specs.declared.ids.ClientId.{ClientId}
 use Rattle.kr_order.specs.declared.ids.ServerId.{ServerId}
@@ -10,11 +10,12 @@ use Rattle.kr_protocol.specs.Manager.{names}
 use Rattle.kr_protocol.specs.Server.{Server}
 use Rattle.kr_protocol.specs.Client.{Client, is_busy}
 use Rattle.script_lang.specs.declared.script.Event.{Event}
-use Rattle.script_lang.specs.declared.script.Event.TheVariants.{Call, Query, Retry, Deliver, Tick, Work, Notice}
+use Rattle.script_lang.specs.declared.script.Event.TheVariants.{Call, Query, Retry, Deliver, Tick, Work, Notice, Join}
 use Rattle.kr_world.specs.declared.refusal.Refusal.TheVariants.{BagFull}
 use Rattle.kr_world.specs.FullBag.{AFullBagRefuses}
 use Rattle.kr_world.specs.World.{World, client_at, server_at, packet_at, is_marked, is_stopped, has_stopped}
-use Rattle.kr_world.specs.Step.{is_full, if_full, call_refusal, query_refusal, retry_refusal, turn_refusal, deliver_refusal, notice_refusal, refusal_of, refuses, act, unless, step}
+use Rattle.kr_world.specs.Step.{is_full, if_full, call_refusal, query_refusal, retry_refusal, turn_refusal, deliver_refusal, notice_refusal, refusal_of, refuses, act, unless, step, most_servers}
+use Rattle.std.proofs.lemmas.Bool.{lt-leb}
 
 -- an event that is refused changes nothing
 refused :
@@ -111,6 +112,15 @@ notice_full world at server enough there stopped named =
     let why : notice_refusal world at (Some server) ≡ Some BagFull = rw (stopped, named, enough) refl in
     refused world (Notice at) (ap (notice_refusal world at) there ∙ why)
 
+join_full :
+    (world : World)
+    → is_full world ≡ true
+    → world.manager.current.joiner ≡ None
+    → world.manager.made < most_servers
+    → step world Join ≡ refuses world BagFull
+join_full world enough none few =
+    refused world Join (rw (none, lt-leb most_servers world.manager.made few, enough) refl)
+
 pub full_refuses : AFullBagRefuses
 full_refuses =
     record {
@@ -122,4 +132,5 @@ full_refuses =
       ticks = tick_full;
       views = view_full;
       notices = notice_full;
+      joins = join_full;
     }

@@ -1,32 +1,36 @@
 -- A server stops, the manager makes the next view, and tells of it: the world stays sound.
-use Rattle.std.proofs.Common.{zero, suc, ◌≡◌, ◌≢◌, ◌⊎◌, ℕ, ◌-◌, ◌<◌, ◌≤◌, Bool, true, false, cond, not, ◌&&◌, ◌||◌, eqb, List, [], ◌∷◌, ◌++◌, length, refl, sym, ap, ◌∙◌, arith, inl, inr}
-use Rattle.std.specs.Prelude.{Option, None, Some, slice_set, slice_index_or, All}
-use Rattle.std.proofs.lemmas.Bool.{cases_eq, eq-eqb, false≢true}
-use Rattle.std.proofs.lemmas.List.{length-map, length-set, get_or-set_other}
+use Rattle.std.proofs.Common.{zero, suc, ◌≡◌, ◌≢◌, ◌⊎◌, ℕ, ◌+◌, ◌-◌, ◌<◌, ◌≤◌, Bool, true, false, cond, not, ◌&&◌, ◌||◌, eqb, leb, List, [], ◌∷◌, ◌++◌, length, refl, sym, ap, ◌∙◌, subst, arith, inl, inr}
+use Rattle.std.specs.Prelude.{Option, None, Some, is_some, slice_get, slice_set, slice_index_or, All}
+use Rattle.std.proofs.lemmas.Bool.{cases_eq, cases_lt, eq-eqb, eqb-true, leb-false, false≢true, and_parts}
+use Rattle.std.proofs.lemmas.List.{length-append, length-map, length-set, get_or-set_other}
 use Rattle.std.proofs.lemmas.List.Elements.{All-weaker, All-map}
-use Rattle.std.proofs.lemmas.Option.{none-some}
+use Rattle.std.proofs.lemmas.Option.{none-some, same_Some}
 use Rattle.kr_order.specs.declared.ids.ServerId.{ServerId}
 use Rattle.kr_order.specs.declared.message.Node as nodes
+use Rattle.kr_order.specs.declared.message.Node.TheVariants.{Manager as AtManager, Client as AtClient, Server as AtServer}
 use Rattle.kr_order.specs.declared.message.Message.{Message}
-use Rattle.kr_order.specs.declared.message.Message.TheVariants.{Append, Ack, NewView}
+use Rattle.kr_order.specs.declared.message.Message.TheVariants.{Append, Ack, NewView, Joined}
 use Rattle.kr_order.specs.declared.view.View.{View}
-use Rattle.kr_order.specs.View.{in_chain, last_member}
-use Rattle.kr_protocol.specs.Manager.{Manager, names, members_but, without, removes, views_of, named_by, view_packet, announces}
-use Rattle.kr_protocol.specs.Evolves.{Evolves, is_without, goes_on, IsRising}
-use Rattle.kr_protocol.specs.Server.{Server, view_number}
-use Rattle.kr_protocol.proofs.ListLemmas.{slice_get_left}
-use Rattle.kr_protocol.proofs.NameLemmas.{member, in_chain-member, member-but, gone-member, same_server}
-use Rattle.kr_protocol.proofs.TimelineLemmas.{IsAt, is_before, is_last, at_of, IsListed, made_by, listed_current, rises, evolves_more, named_few}
-use Rattle.kr_protocol.proofs.NeighbourLemmas.{member_is_named, last_is, is_the_last}
+use Rattle.kr_order.specs.Prefix.{IsPrefix}
+use Rattle.kr_order.specs.View.{in_chain, is_joiner, last_member, prev_of}
+use Rattle.kr_order.proofs.PrefixLemmas.{IsPrefix-nil, shorter_front}
+use Rattle.kr_protocol.specs.Manager.{Manager, names, members_but, joiner_but, without, are_last_and_joiner, may_promote, next_server, removes, adds, promotes, views_of, named_by, view_packet, announces}
+use Rattle.kr_protocol.specs.Evolves.{Evolves, is_without, is_joined, is_promoted, goes_on, IsRising}
+use Rattle.kr_protocol.specs.Server.{Server, viewed, newcomer, prev, behind, view_number}
+use Rattle.kr_protocol.proofs.ListLemmas.{slice_get_left, slice_get_front, slice_get_at}
+use Rattle.kr_protocol.proofs.NameLemmas.{member, in_chain-member, member-but, member-push, gone-member, joiner_named, same_server}
+use Rattle.kr_protocol.proofs.TimelineLemmas.{IsAt, is_before, is_last, at_of, IsListed, made_by, counting, listed_current, rises, is_no_newer, named_before, evolves_more, named_few}
+use Rattle.kr_protocol.proofs.NeighbourLemmas.{member_is_named, IsLast, last_is, has_last, is_the_last, under_joiner, prev_before}
+use Rattle.kr_protocol.proofs.NextLemmas.{joins_between}
 use Rattle.kr_world.specs.World.{World, server_at, is_stopped, is_marked, marked}
-use Rattle.kr_world.specs.Step.{bag_limit, if_full, have_stopped, is_last_running, stop_refusal, notice_refusal, manager_tells, stops, notices}
-use Rattle.kr_world.specs.declared.refusal.Refusal.TheVariants.{NoSuchServer, Stopped, LastServer, NotStopped, NotMember}
-use Rattle.kr_world.specs.Sound.{IsSound, IsSoundServer, IsSoundPacket, IsSoundMessage, IsServed, LastHolds, OldTailsKnow}
+use Rattle.kr_world.specs.Step.{bag_limit, most_servers, if_full, quiet, have_stopped, is_last_running, stop_refusal, notice_refusal, join_refusal, manager_tells, joined_at_manager, stops, notices, joins}
+use Rattle.kr_world.specs.declared.refusal.Refusal.TheVariants.{NoSuchServer, Stopped, LastServer, NotStopped, NotMember, JoinerThere, ServersSpent}
+use Rattle.kr_world.specs.Sound.{IsSound, IsSoundServer, IsViewed, IsSoundAppend, IsSoundAck, IsSoundJoined, IsSoundPacket, IsSoundMessage, WasBeside, HasJoined, IsServed, LastHolds, OldTailsKnow, NeedCovers}
 use Rattle.kr_world.proofs.ListFacts.{all_of}
-use Rattle.kr_world.proofs.StepLemmas.{passed, has_room}
-use Rattle.kr_world.proofs.ChainLemmas.{member_holds}
+use Rattle.kr_world.proofs.StepLemmas.{none_of, passed, has_room}
+use Rattle.kr_world.proofs.ChainLemmas.{IsChain, chain_of, named_most, own_old, descends, was_beside, beside_now, member_holds}
 use Rattle.kr_world.proofs.BagLemmas.{packets_sound}
-use Rattle.kr_world.proofs.SeatLemmas.{mark_of}
+use Rattle.kr_world.proofs.SeatLemmas.{mark_of, sender_is}
 
 -- who was marked stays marked
 still_marked : (marks : List Bool) (k n : ℕ) → is_marked marks n ≡ true → is_marked (marked marks k) n ≡ true
@@ -107,6 +111,7 @@ stop_sound_of world id server at not_last sound =
       servers = sound.servers;
       last_holds = sound.last_holds;
       old_tails = λ k view tail server' listed none last there. by_case tail (sound.old_tails k view tail server' listed none last there);
+      need_covers = sound.need_covers;
       packets = sound.packets;
       calls = sound.calls;
       bag = sound.bag;
@@ -161,16 +166,71 @@ told_sound world room sound =
     packets_sound world (announces world.manager.current) (told_listed world.manager world.servers listed)
     (omega (arith, long, named_few (is_stopped world) world.manager sound.evolves)) sound
 
+-- a server's view is one of more views
+viewed_more : (views more : List View) (server : Server) → IsViewed views server → IsViewed (views ++ more) server
+viewed_more views more server (inl own) =
+    inl (record { view = own.view; adopted = own.adopted; listed = slice_get_left views more (own.view.number - 1) own.view own.listed; named = own.named })
+viewed_more views more server (inr blank) = inr blank
+
+beside_more : (views more : List View) (server : Server) (joiner : ServerId) → WasBeside views server joiner → WasBeside (views ++ more) server joiner
+beside_more views more server joiner beside =
+    record {
+      heard = beside.heard;
+      listed = slice_get_left views more (beside.heard.number - 1) beside.heard beside.listed;
+      no_newer = beside.no_newer;
+      last = beside.last;
+      joins = beside.joins;
+    }
+
 -- packets stay true where there are more views
+joined_viewed : (views more : List View) (servers : List Server) (from : nodes.Node) (joiner : ServerId) → IsSoundJoined views servers from joiner → IsSoundJoined (views ++ more) servers from joiner
+joined_viewed views more servers AtManager joiner said = said
+joined_viewed views more servers (AtClient client) joiner said = said
+joined_viewed views more servers (AtServer server) joiner said =
+    record { sender = said.sender; from_low = said.from_low; there = said.there; beside = beside_more views more said.sender joiner said.beside; covered = said.covered }
+
 message_viewed : (views more : List View) (servers : List Server) (from : nodes.Node) (message : Message) → IsSoundMessage views servers from message → IsSoundMessage (views ++ more) servers from message
 message_viewed views more servers from (NewView view) said = slice_get_left views more (view.number - 1) view said
 message_viewed views more servers from (Append first entries) said = said
 message_viewed views more servers from (Ack done len) said = said
+message_viewed views more servers from (Joined joiner) said = joined_viewed views more servers from joiner said
 message_viewed views more servers from other said = said
+
+-- servers stay sound where there are more views
+more_views : (world : World) (more : List View) → IsSound world → (i : ℕ) (server : Server) → slice_get world.servers i ≡ Some server
+    → IsSoundServer (views_of world.manager ++ more) world.servers world.history (length world.bag) i server
+more_views world more sound i server there =
+    let own = sound.servers i server there in
+    record {
+      id = own.id;
+      own_view = viewed_more (views_of world.manager) more server own.own_view;
+      done = own.done;
+      fed = own.fed;
+      below = own.below;
+      agreed = own.agreed;
+      full = own.full;
+      waiting = own.waiting;
+      entries = own.entries;
+    }
+
+-- and so do packets
+more_packets : (world : World) (more : List View) → IsSound world → All (IsSoundPacket (views_of world.manager ++ more) world.servers) world.bag
+more_packets world more sound =
+    All-weaker (IsSoundPacket (views_of world.manager) world.servers) (IsSoundPacket (views_of world.manager ++ more) world.servers)
+    (λ packet said. message_viewed (views_of world.manager) more world.servers packet.from packet.message said) world.bag sound.packets
 
 -- the manager has heard of a server that has stopped, and has not told of the view without it
 abbrev pub removed : World → ServerId → World
 removed world gone = record world { manager = removes world.manager gone }
+
+-- who joins then joined before
+joined_before : (joiner : Option ServerId) (gone id : ServerId) → joiner_but joiner gone ≡ Some id → joiner ≡ Some id
+joined_before None gone id is = absurd (none-some id is)
+joined_before (Some joiner) gone id is = by_test (eqb joiner.0 gone.0) is
+  where
+    by_test : (test : Bool) → cond test None (Some joiner) ≡ Some id → Some joiner ≡ Some id
+    by_test true none = absurd (none-some id none)
+    by_test false same = same
 
 -- who is a member then was one
 was_member : (view : View) (gone id : ServerId) → in_chain (without view gone) id ≡ true → (gone.0 ≢ id.0) × (in_chain view id ≡ true)
@@ -249,6 +309,58 @@ module _ (world : World) (gone : ServerId) (sound : IsSound world) (stops : is_s
       let low = (rising_then.most last (member_is_named world.manager.current last was.1)).0 in
       member_holds world sound (last.0 - 1) server there (ap (in_chain world.manager.current) (same_server server.id last (omega arith)) ∙ was.1)
 
+  -- who becomes the last member saw no joiner behind it: whoever joins now joined when the one that has gone was behind it
+  need_covers_still : NeedCovers (removed world gone)
+  need_covers_still joiner last server is ends there stands = by_last (cases_eq before.0.0 last.0)
+    where
+      chain : IsChain (is_stopped world) world.manager world.servers
+      chain = chain_of world sound
+
+      before : (id : ServerId) × (last_member world.manager.current ≡ Some id)
+      before = has_last world.manager.current made_then rising_then
+
+      joins : world.manager.current.joiner ≡ Some joiner
+      joins = joined_before world.manager.current.joiner gone joiner is
+
+      its : IsLast now.current last
+      its = last_is now.current (made_by (is_stopped world) now evolved now.current) rising_now last ends
+
+      was : (gone.0 ≢ last.0) × (in_chain world.manager.current last ≡ true)
+      was = was_member world.manager.current gone last its.member
+
+      first : IsLast world.manager.current before.0
+      first = last_is world.manager.current made_then rising_then before.0 before.1
+
+      newest : IsListed world.manager world.manager.current
+      newest = listed_current (is_stopped world) world.manager sound.evolves
+
+      by_last : (before.0.0 ≡ last.0) ⊎ (before.0.0 ≢ last.0) → length world.history ≤ server.need
+      by_last (inl same) = sound.need_covers joiner last server joins (before.1 ∙ ap (λ d. Some d) (same_server before.0 last same)) there stands
+      by_last (inr other) = by_gone (cases_eq gone.0 before.0.0)
+        where
+          by_gone : (gone.0 ≡ before.0.0) ⊎ (gone.0 ≢ before.0.0) → length world.history ≤ server.need
+          by_gone (inr differ) = absurd (other (ap (λ (d : ServerId). d.0) (same_Some before.0 last (sym (last_stays before.0 differ before.1) ∙ ends))))
+          by_gone (inl same) =
+              let number = (sound.servers (last.0 - 1) server there).id in
+              let low = (rising_then.most last (member_is_named world.manager.current last was.1)).0 in
+              let self = same_server server.id last (omega arith) in
+              let beside = beside_now (is_stopped world) world.manager world.servers chain server joiner (sound.servers (last.0 - 1) server there).own_view stands in
+              let view = beside.was.heard in
+              let listed_view = beside.was.listed in
+              let rising = rises (is_stopped world) world.manager sound.evolves view listed_view in
+              let le = (is_no_newer (is_stopped world) world.manager sound.evolves view listed_view).1 in
+              let member = first.member in
+              let gone_in : in_chain world.manager.current gone ≡ true = ap (in_chain world.manager.current) (same_server gone before.0 same) ∙ member in
+              let under = rising_then.joiner gone joiner gone_in joins in
+              let named_joiner : names view joiner ≡ true = joiner_named view joiner (ap (λ j. is_joiner j joiner) beside.was.joins ∙ eq-eqb joiner.0 joiner.0 refl) in
+              let named_gone = named_before (is_stopped world) world.manager sound.evolves view world.manager.current gone joiner listed_view newest le named_joiner (member_is_named world.manager.current gone gone_in) (omega arith) in
+              let in_view = under_joiner view (made_by (is_stopped world) world.manager sound.evolves view) rising joiner gone beside.was.joins named_gone under in
+              let ends_view = last_is view (made_by (is_stopped world) world.manager sound.evolves view) rising server.id beside.was.last in
+              let most = ends_view.greatest gone in_view in
+              let less = first.greatest last was.1 in
+              let apart = was.0 in
+              absurd (apart (omega (arith, ap (λ (d : ServerId). d.0) self)))
+
   pub removed_sound : IsSound (removed world gone)
   removed_sound =
       record {
@@ -256,37 +368,17 @@ module _ (world : World) (gone : ServerId) (sound : IsSound world) (stops : is_s
         made = sound.made;
         few = sound.few;
         served = record { member = sound.served.member; in_it = left_member; runs = sound.served.runs };
-        servers = λ i server there. viewed_more i server (sound.servers i server there);
+        servers = more_views world (now.current ∷ []) sound;
         last_holds = last_holds_still;
         old_tails = old_tails_still;
-        packets = All-weaker (IsSoundPacket (views_of world.manager) world.servers) (IsSoundPacket (views_of now) world.servers)
-            (λ packet said. message_viewed (views_of world.manager) (now.current ∷ []) world.servers packet.from packet.message said) world.bag sound.packets;
+        need_covers = need_covers_still;
+        packets = more_packets world (now.current ∷ []) sound;
         calls = sound.calls;
         bag = sound.bag;
         stopped = sound.stopped;
         lost = sound.lost;
         delivered = sound.delivered;
       }
-    where
-      viewed_more : (i : ℕ) (server : Server) → IsSoundServer (views_of world.manager) world.servers world.history (length world.bag) i server
-          → IsSoundServer (views_of now) world.servers world.history (length world.bag) i server
-      viewed_more i server own =
-          record {
-            id = own.id;
-            own_view = record {
-              view = own.own_view.view;
-              adopted = own.own_view.adopted;
-              listed = slice_get_left (views_of world.manager) (now.current ∷ []) (own.own_view.view.number - 1) own.own_view.view own.own_view.listed;
-              named = own.own_view.named;
-            };
-            done = own.done;
-            fed = own.fed;
-            below = own.below;
-            agreed = own.agreed;
-            full = own.full;
-            waiting = own.waiting;
-            entries = own.entries;
-          }
 
 pub notice_sound : (world : World) (id : ServerId) (found : Option Server) → server_at world id ≡ found → notice_refusal world id found ≡ None
     → IsSound world → IsSound (notices world found).after
@@ -295,3 +387,346 @@ notice_sound world id (Some server) at none sound =
     let may = may_notice world id server none in
     let stops = mark_of world id server at sound ∙ may.stopped in
     told_sound (removed world server.id) may.room (removed_sound world server.id sound stops may.named)
+
+-- a mark more at the end changes none of the others
+more_marks : (marks : List Bool) (n : ℕ) → is_marked (marks ++ false ∷ []) n ≡ is_marked marks n
+more_marks marks n = by_place marks (n - 1)
+  where
+    by_place : (marks : List Bool) (k : ℕ) → slice_index_or (marks ++ false ∷ []) k false ≡ slice_index_or marks k false
+    by_place [] zero = refl
+    by_place [] (suc k) = refl
+    by_place (mark ∷ marks) zero = refl
+    by_place (mark ∷ marks) (suc k) = by_place marks k
+
+-- a new server has joined, and the manager has not told of it
+abbrev pub with_newcomer : World → World
+with_newcomer world =
+    record world { manager = adds world.manager; servers = world.servers ++ newcomer (next_server world.manager) ∷ []; stopped = world.stopped ++ false ∷ [] }
+
+module _ (world : World) (sound : IsSound world) (none : world.manager.current.joiner ≡ None) (few : world.manager.made < 64) where
+  abbrev joiner_id : ServerId
+  joiner_id = next_server world.manager
+
+  abbrev blank : Server
+  blank = newcomer joiner_id
+
+  abbrev joined : World
+  joined = with_newcomer world
+
+  chain_then : IsChain (is_stopped world) world.manager world.servers
+  chain_then = chain_of world sound
+
+  still_stopped : (id : ServerId) → is_stopped world id ≡ true → is_stopped joined id ≡ true
+  still_stopped id is = more_marks world.stopped id.0 ∙ is
+
+  -- no view before names the new server
+  not_named : (view : View) (id : ServerId) → IsListed world.manager view → names view id ≡ true → (1 ≤ id.0) × (id.0 < joiner_id.0)
+  not_named view id listed named =
+      let most = named_most (is_stopped world) world.manager world.servers chain_then view id listed named in
+      let high = most.1 in
+      let made = sound.made in
+      (most.0, omega arith)
+
+  -- a server that some view named stands where it stood
+  stood : (view : View) (id : ServerId) (server : Server) → IsListed world.manager view → names view id ≡ true → slice_get joined.servers (id.0 - 1) ≡ Some server → slice_get world.servers (id.0 - 1) ≡ Some server
+  stood view id server listed named there =
+      let both = not_named view id listed named in
+      let low = both.0 in
+      let high = both.1 in
+      let made = sound.made in
+      slice_get_front world.servers (blank ∷ []) (id.0 - 1) server (omega arith) there
+
+  newest_then : IsListed world.manager world.manager.current
+  newest_then = listed_current (is_stopped world) world.manager sound.evolves
+
+  last_named : (last : ServerId) → last_member world.manager.current ≡ Some last → names world.manager.current last ≡ true
+  last_named last is =
+      let rising = rises (is_stopped world) world.manager sound.evolves world.manager.current newest_then in
+      member_is_named world.manager.current last (last_is world.manager.current (made_by (is_stopped world) world.manager sound.evolves world.manager.current) rising last is).member
+
+  -- the servers that there were
+  sound_then : (i : ℕ) (server : Server) → slice_get world.servers i ≡ Some server → IsSoundServer (views_of joined.manager) joined.servers joined.history (length joined.bag) i server
+  sound_then i server there =
+      let own = sound.servers i server there in
+      record {
+        id = own.id;
+        own_view = viewed_more (views_of world.manager) (joined.manager.current ∷ []) server own.own_view;
+        done = own.done;
+        fed = own.fed;
+        below = λ j before at is. by_place j before (at_of world.servers blank j before at) is own.own_view;
+        agreed = own.agreed;
+        full = own.full;
+        waiting = own.waiting;
+        entries = own.entries;
+      }
+    where
+      by_place : (j : ℕ) (before : Server) → IsAt world.servers blank j before → prev server ≡ Some before.id → IsViewed (views_of world.manager) server → IsPrefix server.log before.log
+      by_place j before (is_before lt at) is own = (sound.servers i server there).below j before at is
+      by_place j before (is_last at_end same) is (inr none_yet) = absurd (none-some before.id (sym (ap (λ v. viewed None prev_of v server.id) none_yet.none) ∙ is))
+      by_place j before (is_last at_end same) is (inl own) =
+          let stands : prev_of own.view server.id ≡ Some before.id = sym (ap (λ v. viewed None prev_of v server.id) own.adopted) ∙ is in
+          let rising = rises (is_stopped world) world.manager sound.evolves own.view own.listed in
+          let its = prev_before own.view (made_by (is_stopped world) world.manager sound.evolves own.view) rising before.id server.id stands in
+          let less = (not_named own.view before.id own.listed (member_is_named own.view before.id its.member)).1 in
+          absurd (omega (arith, ap (λ (s : Server). s.id.0) same))
+
+  -- and the new one
+  sound_blank : (i : ℕ) → i ≡ length world.servers → IsSoundServer (views_of joined.manager) joined.servers joined.history (length joined.bag) i blank
+  sound_blank i at_end =
+      let made = sound.made in
+      record {
+        id = omega arith;
+        own_view = inr (record { none = refl; log = refl });
+        done = omega arith;
+        fed = omega arith;
+        below = λ j before at is. absurd (none-some before.id is);
+        agreed = IsPrefix-nil world.history;
+        full = λ tail. refl;
+        waiting = omega arith;
+        entries = omega arith;
+      }
+
+  servers_then : (i : ℕ) (server : Server) → slice_get joined.servers i ≡ Some server → IsSoundServer (views_of joined.manager) joined.servers joined.history (length joined.bag) i server
+  servers_then i server at = by_place (at_of world.servers blank i server at)
+    where
+      by_place : IsAt world.servers blank i server → IsSoundServer (views_of joined.manager) joined.servers joined.history (length joined.bag) i server
+      by_place (is_before lt there) = sound_then i server there
+      by_place (is_last at_end same) = subst (IsSoundServer (views_of joined.manager) joined.servers joined.history (length joined.bag) i) same (sound_blank i at_end)
+
+  old_tails_then : OldTailsKnow joined
+  old_tails_then k view tail server at alone last there = by_place (at_of (views_of world.manager) joined.manager.current k view at)
+    where
+      Knows : Type 0
+      Knows = (last_member joined.manager.current ≡ Some tail) ⊎ ((is_stopped joined tail ≡ true) ⊎ (view.number < view_number server.view))
+
+      by_case : (last_member world.manager.current ≡ Some tail) ⊎ ((is_stopped world tail ≡ true) ⊎ (view.number < view_number server.view)) → Knows
+      by_case (inl is) = inl is
+      by_case (inr (inl is)) = inr (inl (still_stopped tail is))
+      by_case (inr (inr newer)) = inr (inr newer)
+
+      by_place : IsAt (views_of world.manager) joined.manager.current k view → Knows
+      by_place (is_last at_end same) = absurd (none-some joiner_id (sym alone ∙ sym (ap (λ (v : View). v.joiner) same)))
+      by_place (is_before lt there') =
+          let number = (counting (is_stopped world) world.manager sound.evolves).numbers k view there' in
+          let listed_view : IsListed world.manager view = subst (λ n. slice_get (views_of world.manager) n ≡ Some view) (omega arith) there' in
+          let rising = rises (is_stopped world) world.manager sound.evolves view listed_view in
+          let its = last_is view (made_by (is_stopped world) world.manager sound.evolves view) rising tail last in
+          by_case (sound.old_tails k view tail server there' alone last (stood view tail server listed_view (member_is_named view tail its.member) there))
+
+  need_covers_then : NeedCovers joined
+  need_covers_then joiner last server is ends there stands =
+      let at = stood world.manager.current last server newest_then (last_named last ends) there in
+      let own = (sound.servers (last.0 - 1) server at).own_view in
+      let beside = beside_now (is_stopped world) world.manager world.servers chain_then server joiner own stands in
+      let view = beside.was.heard in
+      let named : names view joiner ≡ true = joiner_named view joiner (ap (λ j. is_joiner j joiner) beside.was.joins ∙ eq-eqb joiner.0 joiner.0 refl) in
+      let less = (not_named view joiner beside.was.listed named).1 in
+      absurd (omega (arith, ap (λ (d : ServerId). d.0) (same_Some joiner_id joiner is)))
+
+  message_then : (from : nodes.Node) (message : Message) → IsSoundMessage (views_of world.manager) world.servers from message → IsSoundMessage (views_of joined.manager) joined.servers from message
+  message_then from (Append first entries) said = append_then from said
+    where
+      append_then : (from : nodes.Node) → IsSoundAppend world.servers from first entries → IsSoundAppend joined.servers from first entries
+      append_then AtManager said = said
+      append_then (AtClient client) said = said
+      append_then (AtServer server) said =
+          record { sender = said.sender; from_low = said.from_low; first_low = said.first_low; there = slice_get_left world.servers (blank ∷ []) (server.0 - 1) said.sender said.there; few = said.few; stand = said.stand }
+  message_then from (Ack done len) said = ack_then from said
+    where
+      ack_then : (from : nodes.Node) → IsSoundAck world.servers from done len → IsSoundAck joined.servers from done len
+      ack_then AtManager said = said
+      ack_then (AtClient client) said = said
+      ack_then (AtServer server) said =
+          record { sender = said.sender; from_low = said.from_low; there = slice_get_left world.servers (blank ∷ []) (server.0 - 1) said.sender said.there; done_so_far = said.done_so_far; len_so_far = said.len_so_far }
+  message_then from (NewView view) said = slice_get_left (views_of world.manager) (joined.manager.current ∷ []) (view.number - 1) view said
+  message_then from (Joined joiner) said = joined_then from said
+    where
+      joined_then : (from : nodes.Node) → IsSoundJoined (views_of world.manager) world.servers from joiner → IsSoundJoined (views_of joined.manager) joined.servers from joiner
+      joined_then AtManager said = said
+      joined_then (AtClient client) said = said
+      joined_then (AtServer server) said =
+          let beside = said.beside in
+          let named : names beside.heard joiner ≡ true = joiner_named beside.heard joiner (ap (λ j. is_joiner j joiner) beside.joins ∙ eq-eqb joiner.0 joiner.0 refl) in
+          record {
+            sender = said.sender;
+            from_low = said.from_low;
+            there = slice_get_left world.servers (blank ∷ []) (server.0 - 1) said.sender said.there;
+            beside = beside_more (views_of world.manager) (joined.manager.current ∷ []) said.sender joiner beside;
+            covered = λ other there stands. said.covered other (stood beside.heard joiner other beside.listed named there) stands;
+          }
+  message_then from other said = said
+
+  pub with_newcomer_sound : IsSound joined
+  with_newcomer_sound =
+      let more = length-append world.servers (blank ∷ []) in
+      let marks = length-append world.stopped (false ∷ []) in
+      let stopped = sound.stopped in
+      let made = sound.made in
+      record {
+        evolves = goes_on world.manager joined.manager.current (world.manager.made + 1) (evolves_more (is_stopped world) (is_stopped joined) world.manager still_stopped sound.evolves) (is_joined none);
+        made = omega (arith, more);
+        few = omega (arith, more);
+        served = record { member = sound.served.member; in_it = sound.served.in_it; runs = more_marks world.stopped sound.served.member.0 ∙ sound.served.runs };
+        servers = servers_then;
+        last_holds = λ last server ends there. sound.last_holds last server ends (stood world.manager.current last server newest_then (last_named last ends) there);
+        old_tails = old_tails_then;
+        need_covers = need_covers_then;
+        packets = All-weaker (IsSoundPacket (views_of world.manager) world.servers) (IsSoundPacket (views_of joined.manager) joined.servers) (λ packet said. message_then packet.from packet.message said) world.bag sound.packets;
+        calls = sound.calls;
+        bag = sound.bag;
+        stopped = omega (arith, more, marks);
+        lost = sound.lost;
+        delivered = sound.delivered;
+      }
+
+-- a join that is not refused finds no joiner, fewer servers than may be made, and room in the bag
+pub record MayJoin (world : World) : Type 0 where
+  pub none : world.manager.current.joiner ≡ None
+  pub few : world.manager.made < 64
+  pub room : length world.bag < bag_limit
+
+pub may_join : (world : World) → join_refusal world ≡ None → MayJoin world
+may_join world none =
+    let rest = cond (leb most_servers world.manager.made) (Some ServersSpent) (if_full world) in
+    let first = passed JoinerThere (is_some world.manager.current.joiner) rest none in
+    let second = passed ServersSpent (leb most_servers world.manager.made) (if_full world) first.1 in
+    record { none = none_of world.manager.current.joiner first.0; few = leb-false most_servers world.manager.made second.0; room = has_room world second.1 }
+
+pub join_sound : (world : World) → join_refusal world ≡ None → IsSound world → IsSound (joins world).after
+join_sound world none sound =
+    let may = may_join world none in
+    told_sound (with_newcomer world) may.room (with_newcomer_sound world sound may.none may.few)
+
+-- who may promote is the last member, and whom the joiner
+pub record MayPromote (view : View) (from joiner : ServerId) : Type 0 where
+  pub last : last_member view ≡ Some from
+  pub joins : view.joiner ≡ Some joiner
+
+pub may_promote_so : (view : View) (from joiner : ServerId) → may_promote view from joiner ≡ true → MayPromote view from joiner
+may_promote_so view from joiner is = by_both (last_member view) view.joiner refl refl is
+  where
+    by_both : (last its : Option ServerId) → last_member view ≡ last → view.joiner ≡ its → are_last_and_joiner last its from joiner ≡ true → MayPromote view from joiner
+    by_both None its ends joins is = absurd (false≢true is)
+    by_both (Some last) None ends joins is = absurd (false≢true is)
+    by_both (Some last) (Some other) ends joins is =
+        let tests = and_parts (eqb last.0 from.0) (eqb other.0 joiner.0) is in
+        record {
+          last = ends ∙ ap (λ d. Some d) (same_server last from (eqb-true last.0 from.0 tests.0));
+          joins = joins ∙ ap (λ d. Some d) (same_server other joiner (eqb-true other.0 joiner.0 tests.1));
+        }
+
+-- the joiner is a member from now on, and the manager has not told of it
+abbrev pub with_member : World → ServerId → World
+with_member world joiner = record world { manager = promotes world.manager joiner }
+
+module _ (world : World) (sound : IsSound world) (from joiner : ServerId) (said : HasJoined (views_of world.manager) world.servers from joiner) (may : MayPromote world.manager.current from joiner) where
+  abbrev after : Manager
+  after = promotes world.manager joiner
+
+  chain_before : IsChain (is_stopped world) world.manager world.servers
+  chain_before = chain_of world sound
+
+  newest_before : IsListed world.manager world.manager.current
+  newest_before = listed_current (is_stopped world) world.manager sound.evolves
+
+  made_before : ℕ
+  made_before = made_by (is_stopped world) world.manager sound.evolves world.manager.current
+
+  rising_before : IsRising world.manager.current made_before
+  unfolding made_before
+  rising_before = rises (is_stopped world) world.manager sound.evolves world.manager.current newest_before
+
+  joiner_is_named : names world.manager.current joiner ≡ true
+  joiner_is_named = joiner_named world.manager.current joiner (ap (λ j. is_joiner j joiner) may.joins ∙ eq-eqb joiner.0 joiner.0 refl)
+
+  self : said.sender.id ≡ from
+  self = sender_is world from said.sender sound said.there said.from_low
+
+  ends : IsLast world.manager.current from
+  ends = last_is world.manager.current made_before rising_before from may.last
+
+  -- the last member stands beside the joiner by its own view, so the joiner has all that is history
+  beside_it : behind said.sender ≡ Some joiner
+  beside_it =
+      was_beside (is_stopped world) world.manager world.servers chain_before said.sender world.manager.current joiner said.beside (sound.servers (from.0 - 1) said.sender said.there).own_view newest_before
+      (own_old (is_stopped world) world.manager world.servers chain_before (from.0 - 1) said.sender said.there) may.joins (may.last ∙ ap (λ d. Some d) (sym self))
+
+  -- the history stands in the joiner's log
+  joiner_holds : (other : Server) → slice_get world.servers (joiner.0 - 1) ≡ Some other → IsPrefix world.history other.log
+  joiner_holds other there =
+      let covers = sound.need_covers joiner from said.sender may.joins may.last said.there beside_it in
+      let enough = said.covered other there beside_it in
+      let holds = sound.last_holds from said.sender may.last said.there in
+      let number = (sound.servers (joiner.0 - 1) other there).id in
+      let low = (rising_before.most joiner joiner_is_named).0 in
+      let its : other.id ≡ joiner = same_server other.id joiner (omega arith) in
+      let less = rising_before.joiner from joiner ends.member may.joins in
+      let below = descends (is_stopped world) world.manager world.servers chain_before (from.0 - 1) (joiner.0 - 1) said.sender other said.there there
+      (ap (names world.manager.current) self ∙ member_is_named world.manager.current from ends.member) (ap (names world.manager.current) its ∙ joiner_is_named)
+      (omega (arith, ap (λ (d : ServerId). d.0) self, ap (λ (d : ServerId). d.0) its)) in
+      shorter_front world.history other.log said.sender.log holds below (omega arith)
+
+  last_then : last_member after.current ≡ Some joiner
+  last_then =
+      let more = length-append world.manager.current.chain (joiner ∷ []) in
+      slice_get_at world.manager.current.chain joiner [] (length (world.manager.current.chain ++ joiner ∷ []) - 1) (omega arith)
+
+  old_tails_promoted : OldTailsKnow (with_member world joiner)
+  old_tails_promoted k view tail server at alone last there = by_place (at_of (views_of world.manager) after.current k view at)
+    where
+      Knows : Type 0
+      Knows = (last_member after.current ≡ Some tail) ⊎ ((is_stopped world tail ≡ true) ⊎ (view.number < view_number server.view))
+
+      -- the last member so far went by a view with the joiner, newer than any by which it was the tail
+      by_number : IsListed world.manager view → tail ≡ from → (view.number < view_number server.view) ⊎ (view_number server.view ≤ view.number) → Knows
+      by_number listed_view same (inl newer) = inr (inr newer)
+      by_number listed_view same (inr older) =
+          let there' : slice_get world.servers (from.0 - 1) ≡ Some server = ap (λ (d : ServerId). slice_get world.servers (d.0 - 1)) (sym same) ∙ there in
+          let its : said.sender ≡ server = same_Some said.sender server (sym said.there ∙ there') in
+          let no_newer = said.beside.no_newer in
+          let le = (is_no_newer (is_stopped world) world.manager sound.evolves view listed_view).1 in
+          let joins = joins_between (is_stopped world) world.manager sound.evolves said.beside.heard view world.manager.current joiner said.beside.listed listed_view newest_before
+          (omega (arith, ap (λ (s : Server). view_number s.view) its)) le said.beside.joins may.joins in
+          absurd (none-some joiner (sym alone ∙ joins))
+
+      by_case : IsListed world.manager view → (last_member world.manager.current ≡ Some tail) ⊎ ((is_stopped world tail ≡ true) ⊎ (view.number < view_number server.view)) → Knows
+      by_case listed_view (inl is) = by_number listed_view (same_Some tail from (sym is ∙ may.last)) (cases_lt view.number (view_number server.view))
+      by_case listed_view (inr rest) = inr rest
+
+      by_place : IsAt (views_of world.manager) after.current k view → Knows
+      by_place (is_last at_end same) = inl (ap last_member same ∙ last)
+      by_place (is_before lt there') =
+          let number = (counting (is_stopped world) world.manager sound.evolves).numbers k view there' in
+          by_case (subst (λ n. slice_get (views_of world.manager) n ≡ Some view) (omega arith) there') (sound.old_tails k view tail server there' alone last there)
+
+  pub with_member_sound : IsSound (with_member world joiner)
+  with_member_sound =
+      record {
+        evolves = goes_on world.manager after.current world.manager.made sound.evolves (is_promoted joiner may.joins);
+        made = sound.made;
+        few = sound.few;
+        served = record { member = sound.served.member; in_it = stays_member; runs = sound.served.runs };
+        servers = more_views world (after.current ∷ []) sound;
+        last_holds = λ last server is there. joiner_holds server (ap (λ (d : ServerId). slice_get world.servers (d.0 - 1)) (same_Some joiner last (sym last_then ∙ is)) ∙ there);
+        old_tails = old_tails_promoted;
+        need_covers = λ other last server is ends there stands. absurd (none-some other is);
+        packets = more_packets world (after.current ∷ []) sound;
+        calls = sound.calls;
+        bag = sound.bag;
+        stopped = sound.stopped;
+        lost = sound.lost;
+        delivered = sound.delivered;
+      }
+    where
+      stays_member : in_chain after.current sound.served.member ≡ true
+      stays_member =
+          in_chain-member after.current sound.served.member ∙ member-push world.manager.current.chain joiner sound.served.member ∙ ap (λ b. b || eqb joiner.0 sound.served.member.0) (sym (in_chain-member world.manager.current sound.served.member) ∙ sound.served.in_it)
+
+-- what the manager is told of a joiner keeps the world sound
+pub joined_sound : (world : World) (from joiner : ServerId) → length world.bag < bag_limit → HasJoined (views_of world.manager) world.servers from joiner
+    → IsSound world → IsSound (joined_at_manager world from joiner).after
+joined_sound world from joiner room said sound = by_test (may_promote world.manager.current from joiner) refl
+  where
+    by_test : (test : Bool) → may_promote world.manager.current from joiner ≡ test → IsSound (cond test (manager_tells world (promotes world.manager joiner)) (quiet world)).after
+    by_test false is = sound
+    by_test true is = told_sound (with_member world joiner) room (with_member_sound world sound from joiner said (may_promote_so world.manager.current from joiner is))

@@ -3,16 +3,18 @@ use Rattle.std.proofs.Common.{suc, ◌≡◌, ◌⊎◌, ℕ, ◌+◌, ◌-◌, 
 use Rattle.std.specs.Prelude.{Some, slice_get, All}
 use Rattle.std.proofs.lemmas.List.{length-take-le, take_all}
 use Rattle.std.proofs.lemmas.List.Elements.{All-nil, All-cons}
+use Rattle.std.proofs.lemmas.Bool.{false≢true}
 use Rattle.std.proofs.lemmas.Option.{same_Some}
 use Rattle.kr_order.specs.declared.ids.ServerId.{ServerId}
 use Rattle.kr_order.specs.declared.history.Entry.{Entry}
 use Rattle.kr_order.specs.Prefix.{IsPrefix}
 use Rattle.kr_order.specs.View.{last_member, is_tail}
 use Rattle.kr_order.proofs.PrefixLemmas.{IsPrefix-refl, IsPrefix-trans, IsPrefix-length, take_front}
+use Rattle.kr_protocol.specs.Manager.{views_of}
 use Rattle.kr_protocol.specs.Reaction.{Reaction}
 use Rattle.kr_protocol.specs.Server.{Server, viewed, acknowledged, is_at_tail, view_number}
 use Rattle.kr_world.specs.World.{World, longer, longest}
-use Rattle.kr_world.specs.Sound.{IsSound, LastHolds}
+use Rattle.kr_world.specs.Sound.{IsSound, IsViewed, LastHolds}
 use Rattle.kr_world.proofs.ListFacts.{each_after_set, set_here}
 use Rattle.kr_world.proofs.LongestLemmas.{IsWithin, longer_front, longer_same, longest_set}
 use Rattle.kr_world.proofs.SeatLemmas.{IsSeated, own_of, seat_within, seat_holds, tail_member, tail_is_last}
@@ -97,6 +99,27 @@ stays world id old reaction seat bounds tail =
       more = λ lt. absurd (omega arith);
     }
 
+-- who is the tail once it has gone on is the last member of the current view
+pub after_is_last :
+    (world : World) (id : ServerId) (old : Server) (reaction : Reaction Server)
+    → IsSeated world id old
+    → IsWithinBounds world old reaction
+    → is_at_tail reaction.after ≡ true
+    → last_member world.manager.current ≡ Some old.id
+after_is_last world id old reaction seat bounds tail = by_view bounds.own_view
+  where
+    after : Server
+    after = reaction.after
+
+    by_view : IsViewed (views_of world.manager) after → last_member world.manager.current ≡ Some old.id
+    by_view (inr blank) = absurd (false≢true (sym (ap (λ v. viewed false is_tail v after.id) blank.none) ∙ tail))
+    by_view (inl own) =
+        let number = ap view_number own.adopted in
+        let no_older = bounds.no_older in
+        let its_tail : is_tail own.view old.id ≡ true =
+        ap (is_tail own.view) (sym bounds.id) ∙ sym (ap (λ v. viewed false is_tail v after.id) own.adopted) ∙ tail in
+        tail_is_last world id old own.view seat own.listed (omega arith) its_tail
+
 -- where the tail goes on, or a server that has become the tail, its log is the history
 tail_grows :
     (world : World) (id : ServerId) (old : Server) (reaction : Reaction Server)
@@ -113,12 +136,7 @@ tail_grows world id old reaction seat bounds tail =
     let lt : i < length world.servers = seat_within world id old seat in
     let whole : acknowledged after ≡ after.log =
     ap (λ k. take k after.log) (bounds.full tail) ∙ take_all (length after.log) after.log (omega arith) in
-    let view = bounds.own_view.view in
-    let number = ap view_number bounds.own_view.adopted in
-    let no_older = bounds.no_older in
-    let its_tail : is_tail view old.id ≡ true =
-    ap (is_tail view) (sym bounds.id) ∙ sym (ap (λ v. viewed false is_tail v after.id) bounds.own_view.adopted) ∙ tail in
-    let last = tail_is_last world id old view seat bounds.own_view.listed (omega arith) its_tail in
+    let last = after_is_last world id old reaction seat bounds tail in
     let its = own.id in
     let holds : IsPrefix history old.log = seat.sound.last_holds old.id old last (subst (λ k. slice_get world.servers k ≡ Some old) (omega arith) seat.at) in
     let grown : IsPrefix history after.log = IsPrefix-trans history old.log after.log holds bounds.grows in

@@ -58,13 +58,14 @@ enters_tail server client to seq command counted may tail =
     record {
       id = refl;
       view = refl;
+      need = refl;
       more = more;
       log = refl;
       gains = gains_command client to seq command may;
       done = done_all (request client to seq command) more tail;
       fed = omega arith;
       waiting = waits_on (request client to seq command);
-      sent = replies_sent server grown upto;
+      sent = replies_sent (request client to seq command) server grown upto;
       replies = upto - server.done;
       middle = λ other. absurd (false≢true (sym other ∙ tail));
       newly = omega arith;
@@ -89,13 +90,14 @@ enters_first server client to seq command counted may tail =
     record {
       id = refl;
       view = refl;
+      need = refl;
       more = more;
       log = refl;
       gains = gains_command client to seq command may;
       done = done_before (request client to seq command) more tail;
       fed = omega arith;
       waiting = waits_on (request client to seq command);
-      sent = window_sent server grown;
+      sent = window_sent (request client to seq command) server grown;
       replies = 0;
       middle = λ other. refl;
       newly = omega arith;
@@ -143,7 +145,7 @@ requested_shape server client to seq command (Some last) counted is = by_test (e
         → HasShape (request client to seq command) server (cond same (sends server (reply_packet server.id last ∷ [])) (enters_new server (entry_of client seq command)))
     by_test true =
         let among = last_among client (done_of (acknowledged server)) last is in
-        let sent = All-cons (IsSent server server) (reply_packet server.id last) [] (sends_reply last among) (All-nil (IsSent server server)) in
+        let sent = All-cons (IsSent (request client to seq command) server server) (reply_packet server.id last) [] (sends_reply last among) (All-nil (IsSent (request client to seq command) server server)) in
         stays_shape (request client to seq command) server (reply_packet server.id last ∷ []) sent (omega arith)
     by_test false = enters_new_shape server client to seq command counted
 

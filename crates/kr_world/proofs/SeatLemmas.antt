@@ -1,16 +1,16 @@
 -- A server of a sound world that has not stopped, and who stands before and after it.
-use Rattle.std.proofs.Common.{◌≡◌, ◌⊎◌, ℕ, ◌-◌, ◌<◌, ◌≤◌, Bool, true, false, ◌&&◌, length, refl, sym, ap, ◌∙◌, subst, arith, inl, inr}
+use Rattle.std.proofs.Common.{◌≡◌, ◌⊎◌, ℕ, ◌-◌, ◌<◌, ◌≤◌, Bool, true, false, cond, ◌&&◌, length, refl, sym, ap, ◌∙◌, subst, arith, inl, inr}
 use Rattle.std.specs.Prelude.{Option, None, Some, is_none, slice_get, slice_index_or}
-use Rattle.std.proofs.lemmas.Bool.{and_parts, eqb-true, false≢true}
+use Rattle.std.proofs.lemmas.Bool.{and_parts, false≢true}
 use Rattle.std.proofs.lemmas.Option.{none-some, same_Some, slice_get_within}
 use Rattle.kr_order.specs.declared.ids.ServerId.{ServerId}
 use Rattle.kr_order.specs.declared.view.View.{View}
 use Rattle.kr_order.specs.Prefix.{IsPrefix}
 use Rattle.kr_order.specs.View.{in_chain, last_member, next_of, prev_of, is_tail, is_head}
 use Rattle.kr_protocol.specs.Manager.{views_of}
-use Rattle.kr_protocol.specs.Server.{Server, viewed, is_member, is_first, is_at_tail, is_server, prev, view_number}
-use Rattle.kr_protocol.proofs.TimelineLemmas.{IsListed, made_by, rises}
-use Rattle.kr_protocol.proofs.NeighbourLemmas.{tail_last}
+use Rattle.kr_protocol.specs.Server.{Server, viewed, is_member, is_first, is_at_tail, is_server, prev, joiner_behind, behind, view_number}
+use Rattle.kr_protocol.proofs.TimelineLemmas.{IsListed, made_by, rises, listed_current}
+use Rattle.kr_protocol.proofs.NeighbourLemmas.{member_is_named, last_is, tail_last, tail_alone}
 use Rattle.kr_world.specs.World.{World, server_at, is_stopped}
 use Rattle.kr_world.specs.Sound.{IsSound, IsSoundServer}
 use Rattle.kr_world.proofs.ChainLemmas.{same_server, chain_of, live_member, member_holds}
@@ -124,11 +124,6 @@ one_before world server from sender sound there low is j before at is' =
     let same : from ≡ before.id = same_Some from before.id (sym is ∙ is') in
     same_Some sender before (sym there ∙ subst (λ k. slice_get world.servers k ≡ Some before) (omega (arith, ap (λ (d : ServerId). d.0) same)) at)
 
--- a test that says that this is the server
-pub some_server : (found : Option ServerId) (id : ServerId) → is_server found id ≡ true → found ≡ Some id
-some_server None id is = absurd (false≢true is)
-some_server (Some server) id is = ap (λ s. Some s) (same_server server id (eqb-true server.0 id.0 is))
-
 not_last :
     (member : Bool) (found : Option ServerId) (from : ServerId)
     → found ≡ Some from
@@ -144,3 +139,27 @@ pub next_not_tail :
     → viewed false is_tail view id ≡ false
 next_not_tail None id from is = refl
 next_not_tail (Some view) id from is = not_last (in_chain view id) (next_of view id) from is
+
+-- nor is who has a joiner behind it
+pub behind_not_tail : (server : Server) (joiner : ServerId) → behind server ≡ Some joiner → is_at_tail server ≡ false
+behind_not_tail server joiner is = by_view server.view is
+  where
+    by_last : (view : View) (test : Bool) → is_server (last_member view) server.id ≡ test → cond test view.joiner None ≡ Some joiner → is_tail view server.id ≡ false
+    by_last view false same joins = absurd (none-some joiner joins)
+    by_last view true same joins = by_tail (is_tail view server.id) refl
+      where
+        by_tail : (tail : Bool) → is_tail view server.id ≡ tail → is_tail view server.id ≡ false
+        by_tail false is = is
+        by_tail true is = absurd (none-some joiner (sym (tail_alone view server.id is) ∙ joins))
+
+    by_view : (view : Option View) → viewed None joiner_behind view server.id ≡ Some joiner → viewed false is_tail view server.id ≡ false
+    by_view None is = refl
+    by_view (Some view) is = by_last view (is_server (last_member view) server.id) refl is
+
+-- the last member has a number
+pub last_low : (world : World) → IsSound world → (last : ServerId) → last_member world.manager.current ≡ Some last → 1 ≤ last.0
+last_low world sound last is =
+    let listed = listed_current (is_stopped world) world.manager sound.evolves in
+    let rising = rises (is_stopped world) world.manager sound.evolves world.manager.current listed in
+    let its = last_is world.manager.current (made_by (is_stopped world) world.manager sound.evolves world.manager.current) rising last is in
+    (rising.most last (member_is_named world.manager.current last its.member)).0

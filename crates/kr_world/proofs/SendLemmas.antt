@@ -74,12 +74,12 @@ lasts_all P (done ∷ more) all = by_test (lasts_all P more (All-tail P done mor
     by_test rest false = All-cons P done (lasts more) (All-head P done more all) rest
 
 pub replies_sent :
-    (old server : Server) (upto : ℕ)
-    → All (IsSent old (record server { done = upto })) (advances server upto).sent
-replies_sent old server upto = by_test (is_at_tail server)
+    (came : Option Packet) (old server : Server) (upto : ℕ)
+    → All (IsSent came old (record server { done = upto })) (advances server upto).sent
+replies_sent came old server upto = by_test (is_at_tail server)
   where
     Sent : Packet → Type 0
-    Sent = IsSent old (record server { done = upto })
+    Sent = IsSent came old (record server { done = upto })
 
     by_test : (tail : Bool) → All Sent (cond tail (map (reply_packet server.id) (lasts (newly_applied server upto))) [])
     by_test true =
@@ -117,18 +117,18 @@ window_few server = by_next (next server)
         by_test true = omega arith
         by_test false = omega arith
 
-pub window_sent : (old server : Server) → All (IsSent old server) (window server)
-window_sent old server = by_next (next server)
+pub window_sent : (came : Option Packet) (old server : Server) → All (IsSent came old server) (window server)
+window_sent came old server = by_next (next server)
   where
-    by_next : (to : Option ServerId) → All (IsSent old server) (window_to server to)
-    by_next None = All-nil (IsSent old server)
+    by_next : (to : Option ServerId) → All (IsSent came old server) (window_to server to)
+    by_next None = All-nil (IsSent came old server)
     by_next (Some to) = by_test (ltb server.fed (length server.log))
       where
         by_test :
             (more : Bool)
-            → All (IsSent old server) (cond more (record { from = OfServer server.id; to = OfServer to; message = Append (server.fed + 1) (next_entries server) } ∷ []) [])
-        by_test true = All-cons (IsSent old server) _ [] (sends_window to) (All-nil (IsSent old server))
-        by_test false = All-nil (IsSent old server)
+            → All (IsSent came old server) (cond more (record { from = OfServer server.id; to = OfServer to; message = Append (server.fed + 1) (next_entries server) } ∷ []) [])
+        by_test true = All-cons (IsSent came old server) _ [] (sends_window to) (All-nil (IsSent came old server))
+        by_test false = All-nil (IsSent came old server)
 
 -- where one follows that may lack entries, the window is not empty
 pub window_some :
@@ -146,18 +146,18 @@ pub ack_few : (server : Server) (to : Option ServerId) → length (ack_to server
 ack_few server None = omega arith
 ack_few server (Some to) = omega arith
 
-pub ack_sent : (old server : Server) (to : Option ServerId) → All (IsSent old server) (ack_to server to)
-ack_sent old server None = All-nil (IsSent old server)
-ack_sent old server (Some to) = All-cons (IsSent old server) _ [] (sends_ack to) (All-nil (IsSent old server))
+pub ack_sent : (came : Option Packet) (old server : Server) (to : Option ServerId) → All (IsSent came old server) (ack_to server to)
+ack_sent came old server None = All-nil (IsSent came old server)
+ack_sent came old server (Some to) = All-cons (IsSent came old server) _ [] (sends_ack to) (All-nil (IsSent came old server))
 
 -- what is passed on
 pub passes_few : (server : Server) (entries : List Entry) → length (passes_on server entries) ≤ 1
 passes_few server [] = omega arith
 passes_few server (entry ∷ more) = window_few server
 
-pub passes_sent : (old server : Server) (entries : List Entry) → All (IsSent old server) (passes_on server entries)
-passes_sent old server [] = All-nil (IsSent old server)
-passes_sent old server (entry ∷ more) = window_sent old server
+pub passes_sent : (came : Option Packet) (old server : Server) (entries : List Entry) → All (IsSent came old server) (passes_on server entries)
+passes_sent came old server [] = All-nil (IsSent came old server)
+passes_sent came old server (entry ∷ more) = window_sent came old server
 
 -- the tail replies where it has applied something new
 pub tail_replies :

@@ -50,7 +50,7 @@ shape_fair past world id old came reaction now moment sound known shape grown ag
     let then : IsKnown world now after = record { grown = grown; agreed = agreed; callers = log.callers } in
     record {
       log = log;
-      sent = All-weaker (IsSent old after) (IsTruePacket past now) (sent_true past world id old after now moment then) reaction.sent shape.sent;
+      sent = All-weaker (IsSent came old after) (IsTruePacket past now) (sent_true past world id came old after now moment then) reaction.sent shape.sent;
       waiting = queries_grown past world.history now after.waiting grown (waits_asked past world.history old came after.waiting (own_true past world id old moment) known shape.waiting);
     }
 
@@ -64,7 +64,7 @@ adoption_fair past world id old view reaction now moment its grown agreed =
     let then : IsKnown world now reaction.after = record { grown = grown; agreed = agreed; callers = log.callers } in
     record {
       log = log;
-      sent = All-weaker (IsSent old reaction.after) (IsTruePacket past now) (sent_true past world id old reaction.after now moment then) reaction.sent its.sent;
+      sent = All-weaker (IsSent None old reaction.after) (IsTruePacket past now) (sent_true past world id None old reaction.after now moment then) reaction.sent its.sent;
       waiting = queries_grown past world.history now reaction.after.waiting grown (subst (All (IsTrueQuery past world.history)) (sym its.waiting) own.waiting);
     }
 

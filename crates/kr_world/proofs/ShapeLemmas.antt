@@ -15,7 +15,7 @@ use Rattle.kr_order.specs.declared.message.Packet.{Packet}
 use Rattle.kr_order.specs.declared.view.View.{View}
 use Rattle.kr_order.specs.Done.{done_of}
 use Rattle.kr_protocol.specs.Reaction.{Reaction}
-use Rattle.kr_protocol.specs.Server.{Server, most_waiting, acknowledged, is_at_tail, is_server, prev, next, may_enter, missing, next_entries, reply_packet, answer_packet, refer_packet}
+use Rattle.kr_protocol.specs.Server.{Server, most_waiting, acknowledged, is_at_tail, is_server, prev, next, behind, may_enter, missing, next_entries, reply_packet, answer_packet, refer_packet, joined_packet}
 
 -- which entries come to the end of its log with a packet, or with none
 pub data Gains (server : Server) : Option Packet → List Entry → Type 0 where
@@ -68,41 +68,49 @@ pub data Waits (server : Server) : Option Packet → List Query → Type 0 where
   waits_none : (came : Option Packet) → Waits server came []
 
 -- what it sends: the server before, and the server that it has become
-pub data IsSent (old after : Server) : Packet → Type 0 where
+pub data IsSent (came : Option Packet) (old after : Server) : Packet → Type 0 where
   -- the reply of an acknowledged entry
   sends_reply :
       (done : DoneEntry)
       → Contains (done_of (acknowledged after)) done
-      → IsSent old after (reply_packet after.id done)
+      → IsSent came old after (reply_packet after.id done)
   -- what is acknowledged to it and how many entries it has
   sends_ack :
       (to : ServerId)
-      → IsSent old after (record { from = OfServer after.id; to = OfServer to; message = Ack after.done (length after.log) })
+      → IsSent came old after (record { from = OfServer after.id; to = OfServer to; message = Ack after.done (length after.log) })
   -- entries that the next server may lack
   sends_window :
       (to : ServerId)
-      → IsSent old after (record { from = OfServer after.id; to = OfServer to; message = Append (after.fed + 1) (next_entries after) })
+      → IsSent came old after (record { from = OfServer after.id; to = OfServer to; message = Append (after.fed + 1) (next_entries after) })
   -- answers to a query that waited
-  sends_answer : (query : Query) → Contains old.waiting query → IsSent old after (answer_packet old query)
+  sends_answer : (query : Query) → Contains old.waiting query → IsSent came old after (answer_packet old query)
   -- which view it has adopted, to who asks
-  sends_view : (view : View) (query : Query) → IsSent old after (refer_packet old view query)
+  sends_view : (view : View) (query : Query) → IsSent came old after (refer_packet old view query)
+  -- that the joiner behind it has what it has to have, which that one has said
+  sends_joined :
+      (from : ServerId) (to : nodes.Node) (done len : ℕ)
+      → came ≡ Some (record { from = OfServer from; to = to; message = Ack done len })
+      → behind after ≡ Some from
+      → after.need ≤ len
+      → IsSent came old after (joined_packet after from)
 
 -- the shape of a reaction to a packet, or to none
 pub record HasShape (came : Option Packet) (old : Server) (reaction : Reaction Server) : Type 0 where
   pub id : reaction.after.id ≡ old.id
   pub view : reaction.after.view ≡ old.view
+  pub need : reaction.after.need ≡ old.need
   pub more : List Entry
   pub log : reaction.after.log ≡ old.log ++ more
   pub gains : Gains old came more
   pub done : Acknowledges old came more reaction.after.done
   pub fed : reaction.after.fed ≤ max old.fed (length old.log)
   pub waiting : Waits old came reaction.after.waiting
-  pub sent : All (IsSent old reaction.after) reaction.sent
-  -- each reply of the tail is one of an entry that is newly acknowledged; beside replies and answers go two packets
+  pub sent : All (IsSent came old reaction.after) reaction.sent
+  -- each reply of the tail is one of an entry that is newly acknowledged; beside replies and answers go three packets
   pub replies : ℕ
   pub middle : is_at_tail old ≡ false → replies ≡ 0
   pub newly : replies ≤ reaction.after.done - old.done
-  pub few : length reaction.sent ≤ max (length old.waiting) (replies + 2)
+  pub few : length reaction.sent ≤ max (length old.waiting) (replies + 3)
   -- where entries were gained, something is sent
   pub some : (more ≡ []) ⊎ (1 ≤ length reaction.sent)
 

@@ -4,16 +4,18 @@ use Rattle.std.specs.Prelude.{Option, None, Some}
 use Rattle.kr_order.specs.declared.ids.ServerId.{ServerId}
 use Rattle.kr_order.specs.declared.message.Node as nodes
 use Rattle.kr_order.specs.declared.message.Node.TheVariants.{Manager, Client as ToClient, Server as ToServer}
+use Rattle.kr_order.specs.declared.message.Message.{Message}
+use Rattle.kr_order.specs.declared.message.Message.TheVariants.{Joined}
 use Rattle.kr_order.specs.declared.message.Packet.{Packet}
 use Rattle.kr_protocol.specs.Manager.{views_of}
 use Rattle.kr_protocol.specs.Reaction.{ignored}
 use Rattle.kr_protocol.specs.Server.{Server, adopts, server_takes, server_works, server_ticks}
 use Rattle.script_lang.specs.declared.script.Event.{Event}
-use Rattle.script_lang.specs.declared.script.Event.TheVariants.{Call, Query, Retry, Deliver, Lose, Tick, Work, Stop, Notice, Show, Learn}
+use Rattle.script_lang.specs.declared.script.Event.TheVariants.{Call, Query, Retry, Deliver, Lose, Tick, Work, Stop, Notice, Show, Join, Learn}
 use Rattle.kr_world.specs.declared.refusal.Refusal.{Refusal}
 use Rattle.kr_world.specs.World.{World, client_at, server_at, packet_at, is_stopped, has_stopped, marked}
-use Rattle.kr_world.specs.Step.{bag_limit, if_full, turn_refusal, deliver_refusal, tick_refusal, refusal_of, arrives_at_server, arrives, delivers, works, ticks, ticks_at, shows, act, unless}
-use Rattle.kr_world.specs.Sound.{IsSound, IsSoundPacket, WorldsAreSound}
+use Rattle.kr_world.specs.Step.{bag_limit, if_full, turn_refusal, deliver_refusal, tick_refusal, refusal_of, arrives_at_server, told_by_server, arrives_at_manager, arrives, delivers, works, ticks, ticks_at, shows, act, unless}
+use Rattle.kr_world.specs.Sound.{IsSound, IsSoundMessage, IsSoundPacket, WorldsAreSound}
 use Rattle.kr_world.proofs.StepLemmas.{at_index, has_room, may_turn, may_deliver}
 use Rattle.kr_world.proofs.SeatLemmas.{IsSeated, seated}
 use Rattle.kr_world.proofs.BoundsLemmas.{IsWithinBounds}
@@ -26,7 +28,7 @@ use Rattle.kr_world.proofs.FirstLemmas.{first_is_sound}
 use Rattle.kr_world.proofs.BagLemmas.{lost_sound, delivered_sound}
 use Rattle.kr_world.proofs.ClientStepLemmas.{call_sound, query_sound, retry_sound, hears_sound, learn_sound}
 use Rattle.kr_world.proofs.ServerStepLemmas.{reacts_sound}
-use Rattle.kr_world.proofs.ManagerLemmas.{stop_sound, told_sound, notice_sound}
+use Rattle.kr_world.proofs.ManagerLemmas.{stop_sound, told_sound, notice_sound, join_sound, joined_sound}
 
 -- what a server does with a packet that is true is within bounds
 taken_within :
@@ -112,6 +114,17 @@ shows_sound :
 shows_sound world id None sound = sound
 shows_sound world id (Some server) sound = sound
 
+told_by_sound : (world : World) (from : ServerId) (message : Message) → length world.bag < bag_limit → IsSoundMessage (views_of world.manager) world.servers (ToServer from) message
+    → IsSound world → IsSound (told_by_server world from message).after
+told_by_sound world from (Joined joiner) room said sound = joined_sound world from joiner room said sound
+told_by_sound world from other room said sound = sound
+
+manager_sound : (world : World) (from : nodes.Node) (message : Message) → length world.bag < bag_limit → IsSoundMessage (views_of world.manager) world.servers from message
+    → IsSound world → IsSound (arrives_at_manager world from message).after
+manager_sound world Manager message room said sound = sound
+manager_sound world (ToClient client) message room said sound = sound
+manager_sound world (ToServer server) message room said sound = told_by_sound world server message room said sound
+
 arrives_sound :
     (world : World) (to : nodes.Node) (packet : Packet)
     → has_stopped world to ≡ false
@@ -119,7 +132,7 @@ arrives_sound :
     → IsSoundPacket (views_of world.manager) world.servers packet
     → IsSound world
     → IsSound (arrives world to packet).after
-arrives_sound world Manager packet runs room said sound = sound
+arrives_sound world Manager packet runs room said sound = manager_sound world packet.from packet.message room said sound
 arrives_sound world (ToClient client) packet runs room said sound = hears_sound world client packet (client_at world client) refl room sound
 arrives_sound world (ToServer server) packet runs room said sound =
     takes_sound world server packet (server_at world server) refl runs room said sound
@@ -151,6 +164,7 @@ act_sound world (Work server workers) none sound = work_sound world server (serv
 act_sound world (Stop server) none sound = stop_sound world server (server_at world server) refl none sound
 act_sound world (Notice server) none sound = notice_sound world server (server_at world server) refl none sound
 act_sound world (Show server) none sound = shows_sound world server (server_at world server) sound
+act_sound world Join none sound = join_sound world none sound
 act_sound world (Learn client) none sound = learn_sound world client (client_at world client) refl sound
 
 step_cases :

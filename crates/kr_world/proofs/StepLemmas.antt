@@ -18,7 +18,7 @@ pub at_index : {X : Type 0} (P : X → Type 0) (xs : List X) (i : ℕ) (x : X) �
 at_index P xs i x all is =
     subst P (get_or_from_slice_get xs i x x is) (All-get_or P xs i x (slice_get_within xs i x is) all)
 
-none_of : {A : Type 0} (o : Option A) → is_some o ≡ false → o ≡ None
+pub none_of : {A : Type 0} (o : Option A) → is_some o ≡ false → o ≡ None
 none_of None is = refl
 none_of (Some x) is = absurd (false≢true (sym is))
 

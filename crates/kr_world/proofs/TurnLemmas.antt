@@ -20,13 +20,14 @@ use Rattle.kr_world.proofs.SendLemmas.{window_few, window_sent, ack_few, ack_sen
 -- a server that stays as it is
 pub stays_shape :
     (came : Option Packet) (server : Server) (sent : List Packet)
-    → All (IsSent server server) sent
+    → All (IsSent came server server) sent
     → length sent ≤ 2
     → HasShape came server (sends server sent)
 stays_shape came server sent says few =
     record {
       id = refl;
       view = refl;
+      need = refl;
       more = [];
       log = sym (append-nil server.log);
       gains = gains_none came;
@@ -42,7 +43,7 @@ stays_shape came server sent says few =
     }
 
 pub ignored_shape : (came : Option Packet) (server : Server) → HasShape came server (ignored server)
-ignored_shape came server = stays_shape came server [] (All-nil (IsSent server server)) (omega arith)
+ignored_shape came server = stays_shape came server [] (All-nil (IsSent came server server)) (omega arith)
 
 -- a query waits where there is room
 waits_shape :
@@ -65,13 +66,14 @@ waits_shape server client to q part pairs = by_test (leb most_waiting (length se
         record {
           id = refl;
           view = refl;
+          need = refl;
           more = [];
           log = sym (append-nil server.log);
           gains = gains_none came;
           done = done_stays came;
           fed = omega arith;
           waiting = waits_more client to q part pairs (leb-false most_waiting (length server.waiting) is);
-          sent = All-nil (IsSent server (record server { waiting = server.waiting ++ query ∷ [] }));
+          sent = All-nil (IsSent came server (record server { waiting = server.waiting ++ query ∷ [] }));
           replies = 0;
           middle = λ other. refl;
           newly = omega arith;
@@ -82,7 +84,7 @@ waits_shape server client to q part pairs = by_test (leb most_waiting (length se
 -- or its client is told of the view
 refers_shape : (came : Option Packet) (server : Server) (view : View) (query : Query) → HasShape came server (sends server (refer_packet server view query ∷ []))
 refers_shape came server view query =
-    let Sent = IsSent server server in
+    let Sent = IsSent came server server in
     stays_shape came server (refer_packet server view query ∷ []) (All-cons Sent (refer_packet server view query) [] (sends_view view query) (All-nil Sent)) (omega arith)
 
 pub ask_shape :
@@ -105,11 +107,11 @@ ask_shape server client to q part pairs = by_view server.view
     by_view (Some view) = by_test view (not (is_member server) || is_for_tail server query)
 
 -- what is said to a query that waited
-worked_sent : (old after : Server) (query : Query) (view : Option View) → Contains old.waiting query → IsSent old after (worked_in old query view)
+worked_sent : (old after : Server) (query : Query) (view : Option View) → Contains old.waiting query → IsSent None old after (worked_in old query view)
 worked_sent old after query None at = sends_answer query at
 worked_sent old after query (Some view) at = by_test (is_for_tail old query)
   where
-    by_test : (other : Bool) → IsSent old after (cond other (refer_packet old view query) (answer_packet old query))
+    by_test : (other : Bool) → IsSent None old after (cond other (refer_packet old view query) (answer_packet old query))
     by_test true = sends_view view query
     by_test false = sends_answer query at
 
@@ -117,18 +119,19 @@ worked_sent old after query (Some view) at = by_test (is_for_tail old query)
 pub works_shape : (server : Server) → HasShape None server (server_works server)
 works_shape server =
     let after = record server { waiting = [] } in
-    let Sent : Query → Type 0 = λ query. IsSent server after (work_packet server query) in
+    let Sent : Query → Type 0 = λ query. IsSent None server after (work_packet server query) in
     let said : All Sent server.waiting = All-weaker (Contains server.waiting) Sent (λ query at. worked_sent server after query server.view at) server.waiting (All-contains_itself server.waiting) in
     record {
       id = refl;
       view = refl;
+      need = refl;
       more = [];
       log = sym (append-nil server.log);
       gains = gains_none None;
       done = done_stays None;
       fed = omega arith;
       waiting = waits_none None;
-      sent = All-map (IsSent server after) (work_packet server) server.waiting said;
+      sent = All-map (IsSent None server after) (work_packet server) server.waiting said;
       replies = 0;
       middle = λ other. refl;
       newly = omega arith;
@@ -139,6 +142,6 @@ works_shape server =
 -- when it ticks, it acknowledges and sends its window
 pub ticks_shape : (server : Server) → HasShape None server (server_ticks server)
 ticks_shape server =
-    let sent = All-append (IsSent server server) (ack server) (window server) (ack_sent server server (prev server)) (window_sent server server) in
+    let sent = All-append (IsSent None server server) (ack server) (window server) (ack_sent None server server (prev server)) (window_sent None server server) in
     let long = length-append (ack server) (window server) in
     stays_shape None server (ack server ++ window server) sent (omega (arith, ack_few server (prev server), window_few server))

@@ -1,5 +1,5 @@
 -- What is refused where the bag is full.
-use Rattle.std.specs.Prelude.{true, false, ◌≡◌, ℕ, List, None, Some}
+use Rattle.std.specs.Prelude.{true, false, ◌≡◌, ◌<◌, ℕ, List, None, Some}
 use Rattle.kr_order.specs.declared.ids.ClientId.{ClientId}
 use Rattle.kr_order.specs.declared.ids.ServerId.{ServerId}
 use Rattle.kr_order.specs.declared.ids.EventId.{EventId}
@@ -8,10 +8,10 @@ use Rattle.kr_order.specs.declared.message.Packet.{Packet}
 use Rattle.kr_protocol.specs.Client.{Client, is_busy}
 use Rattle.kr_protocol.specs.Manager.{names}
 use Rattle.kr_protocol.specs.Server.{Server}
-use Rattle.script_lang.specs.declared.script.Event.TheVariants.{Call, Query, Retry, Deliver, Tick, Work, Notice}
+use Rattle.script_lang.specs.declared.script.Event.TheVariants.{Call, Query, Retry, Deliver, Tick, Work, Notice, Join}
 use Rattle.kr_world.specs.declared.refusal.Refusal.TheVariants.{BagFull}
 use Rattle.kr_world.specs.World.{World, client_at, server_at, packet_at, is_marked, is_stopped, has_stopped}
-use Rattle.kr_world.specs.Step.{is_full, refuses, step}
+use Rattle.kr_world.specs.Step.{is_full, most_servers, refuses, step}
 
 -- from 65,000 packets or 268,435,456 bytes of packets on each call and each query of an idle client, each retry of an
 -- open call, each delivery, the work and the tick of each server that runs, the manager's tick, and each notice of a
@@ -67,3 +67,9 @@ pub record AFullBagRefuses : Type 0 where
       → is_stopped world at ≡ true
       → names world.manager.current server.id ≡ true
       → step world (Notice at) ≡ refuses world BagFull
+  pub joins :
+      (world : World)
+      → is_full world ≡ true
+      → world.manager.current.joiner ≡ None
+      → world.manager.made < most_servers
+      → step world Join ≡ refuses world BagFull

@@ -7,6 +7,7 @@ pub mod Rows
 pub mod ChainRows
 pub mod QueryRows
 pub mod StopRows
+pub mod JoinRows
 pub mod HeldRows
 pub mod Sound
 pub mod Lawful

@@ -1,7 +1,7 @@
 -- The words of refusals, as a transcript has them.
 use Rattle.std.specs.Prelude.{ℕ, List, codes}
 use Rattle.kr_world.specs.declared.refusal.Refusal.{Refusal}
-use Rattle.kr_world.specs.declared.refusal.Refusal.TheVariants.{NoSuchClient, NoSuchServer, NoSuchPacket, Stopped, Busy, NothingOpen, Lost, LastServer, NotStopped, NotMember, BagFull}
+use Rattle.kr_world.specs.declared.refusal.Refusal.TheVariants.{NoSuchClient, NoSuchServer, NoSuchPacket, Stopped, Busy, NothingOpen, Lost, LastServer, NotStopped, NotMember, JoinerThere, ServersSpent, BagFull}
 
 abbrev pub refusal_word : Refusal → List ℕ
 refusal_word NoSuchClient = codes "NoSuchClient"
@@ -14,4 +14,6 @@ refusal_word Lost = codes "Lost"
 refusal_word LastServer = codes "LastServer"
 refusal_word NotStopped = codes "NotStopped"
 refusal_word NotMember = codes "NotMember"
+refusal_word JoinerThere = codes "JoinerThere"
+refusal_word ServersSpent = codes "ServersSpent"
 refusal_word BagFull = codes "BagFull"

@@ -1,12 +1,12 @@
 -- What holds of every world of a run, and its code relies on: how the servers' logs, what is acknowledged, the
 -- history and the packets between servers stand to each other.
-use Rattle.std.specs.Prelude.{ℕ, ◌+◌, ◌-◌, ◌*◌, ◌≡◌, ◌≤◌, ◌<◌, ◌⊎◌, Bool, true, false, length, take, drop, List, All, slice_get, None, Some}
+use Rattle.std.specs.Prelude.{ℕ, ◌+◌, ◌-◌, ◌*◌, ◌≡◌, ◌≤◌, ◌<◌, ◌⊎◌, Bool, true, false, length, take, drop, List, [], All, slice_get, None, Some}
 use Rattle.kr_order.specs.declared.ids.ServerId.{ServerId}
 use Rattle.kr_order.specs.declared.history.Entry.{Entry}
 use Rattle.kr_order.specs.declared.message.Node as nodes
 use Rattle.kr_order.specs.declared.message.Node.TheVariants.{Manager as OfManager, Client as OfClient, Server as OfServer}
 use Rattle.kr_order.specs.declared.message.Message.{Message}
-use Rattle.kr_order.specs.declared.message.Message.TheVariants.{Append, Ack, NewView}
+use Rattle.kr_order.specs.declared.message.Message.TheVariants.{Append, Ack, NewView, Joined}
 use Rattle.kr_order.specs.declared.message.Packet.{Packet}
 use Rattle.kr_order.specs.declared.view.View.{View}
 use Rattle.kr_order.specs.Prefix.{IsPrefix}
@@ -14,7 +14,7 @@ use Rattle.kr_order.specs.View.{in_chain, last_member}
 use Rattle.script_lang.specs.declared.script.Event.{Event}
 use Rattle.kr_protocol.specs.Manager.{names, views_of}
 use Rattle.kr_protocol.specs.Evolves.{Evolves}
-use Rattle.kr_protocol.specs.Server.{Server, most_entries, most_waiting, acknowledged, is_at_tail, prev, view_number}
+use Rattle.kr_protocol.specs.Server.{Server, most_entries, most_waiting, acknowledged, is_at_tail, prev, behind, view_number}
 use Rattle.kr_protocol.specs.Client.{Client}
 use Rattle.kr_world.specs.World.{World, first_world, server_at, is_stopped}
 use Rattle.kr_world.specs.Step.{step, bag_limit}
@@ -31,6 +31,14 @@ pub record IsOwnView (views : List View) (server : Server) : Type 0 where
   pub listed : slice_get views (view.number - 1) ≡ Some view
   pub named : names view server.id ≡ true
 
+-- or it has none, and no entry
+pub record IsBlank (server : Server) : Type 0 where
+  pub none : server.view ≡ None
+  pub log : server.log ≡ []
+
+abbrev pub IsViewed : List View → Server → Type 0
+IsViewed views server = IsOwnView views server ⊎ IsBlank server
+
 -- what stands in the server's log stands in that of its predecessor, by the view that it has adopted
 abbrev pub IsBelowPredecessor : List Server → Server → Type 0
 IsBelowPredecessor servers server =
@@ -42,7 +50,7 @@ IsBelowPredecessor servers server =
 -- the server at an index, among these servers and views, after so many packets
 pub record IsSoundServer (views : List View) (servers : List Server) (history : List Entry) (packets i : ℕ) (server : Server) : Type 0 where
   pub id : server.id.0 ≡ i + 1
-  pub own_view : IsOwnView views server
+  pub own_view : IsViewed views server
   pub done : server.done ≤ length server.log
   pub fed : server.fed ≤ length server.log
   pub below : IsBelowPredecessor servers server
@@ -81,10 +89,36 @@ IsSoundAck servers OfManager done len = Unit {0}
 IsSoundAck servers (OfClient client) done len = Unit {0}
 IsSoundAck servers (OfServer server) done len = HasSoMany servers server done len
 
+-- the server has adopted a view, or a newer one, by which it is the last member and that one joins behind it
+pub record WasBeside (views : List View) (server : Server) (joiner : ServerId) : Type 0 where
+  pub heard : View
+  pub listed : slice_get views (heard.number - 1) ≡ Some heard
+  pub no_newer : heard.number ≤ view_number server.view
+  pub last : last_member heard ≡ Some server.id
+  pub joins : heard.joiner ≡ Some joiner
+
+-- the sender saw that this one joins behind it; as long as it goes by such a view, the joiner has what it has to have
+pub record HasJoined (views : List View) (servers : List Server) (from joiner : ServerId) : Type 0 where
+  pub sender : Server
+  pub from_low : 1 ≤ from.0
+  pub there : slice_get servers (from.0 - 1) ≡ Some sender
+  pub beside : WasBeside views sender joiner
+  pub covered :
+      (other : Server)
+      → slice_get servers (joiner.0 - 1) ≡ Some other
+      → behind sender ≡ Some joiner
+      → sender.need ≤ length other.log
+
+abbrev pub IsSoundJoined : List View → List Server → nodes.Node → ServerId → Type 0
+IsSoundJoined views servers OfManager joiner = Unit {0}
+IsSoundJoined views servers (OfClient client) joiner = Unit {0}
+IsSoundJoined views servers (OfServer server) joiner = HasJoined views servers server joiner
+
 abbrev pub IsSoundMessage : List View → List Server → nodes.Node → Message → Type 0
 IsSoundMessage views servers from (Append first entries) = IsSoundAppend servers from first entries
 IsSoundMessage views servers from (Ack done len) = IsSoundAck servers from done len
 IsSoundMessage views servers from (NewView view) = slice_get views (view.number - 1) ≡ Some view
+IsSoundMessage views servers from (Joined joiner) = IsSoundJoined views servers from joiner
 IsSoundMessage views servers from other = Unit {0}
 
 -- what a server says to another is true of its log, whenever it was sent, and the views in packets are the manager's
@@ -110,6 +144,17 @@ OldTailsKnow world =
     → server_at world tail ≡ Some server
     → (last_member world.manager.current ≡ Some tail) ⊎ ((is_stopped world tail ≡ true) ⊎ (view.number < view_number server.view))
 
+-- need covers the history: as long as the last member goes by a view with the current joiner, the joiner has to have all
+-- that is history
+abbrev pub NeedCovers : World → Type 0
+NeedCovers world =
+    (joiner last : ServerId) (server : Server)
+    → world.manager.current.joiner ≡ Some joiner
+    → last_member world.manager.current ≡ Some last
+    → server_at world last ≡ Some server
+    → behind server ≡ Some joiner
+    → length world.history ≤ server.need
+
 -- a member of the view has not stopped
 pub record IsServed (stopped : ServerId → Bool) (view : View) : Type 0 where
   pub member : ServerId
@@ -128,6 +173,7 @@ pub record IsSound (world : World) : Type 0 where
       → IsSoundServer (views_of world.manager) world.servers world.history (length world.bag) i server
   pub last_holds : LastHolds world.manager.current world.servers world.history
   pub old_tails : OldTailsKnow world
+  pub need_covers : NeedCovers world
   pub packets : All (IsSoundPacket (views_of world.manager) world.servers) world.bag
   -- each command had a packet of its own
   pub calls : All (λ client. client.seq ≤ length world.bag) world.clients

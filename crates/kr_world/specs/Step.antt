@@ -1,5 +1,5 @@
 -- What an event does to the world: why it is refused, or else what it does.
-use Rattle.std.specs.Prelude.{ℕ, ◌-◌, List, [], ◌∷◌, length, nat_le, ◌&&◌, ◌||◌, not, true, if◌then◌else◌, slice_set, map, Bool, Option, None, Some}
+use Rattle.std.specs.Prelude.{ℕ, ◌-◌, List, [], ◌∷◌, ◌++◌, length, nat_le, ◌&&◌, ◌||◌, not, true, false, is_some, if◌then◌else◌, slice_set, map, Bool, Option, None, Some}
 use Rattle.kr_order.specs.declared.ids.ClientId.{ClientId}
 use Rattle.kr_order.specs.declared.ids.ServerId.{ServerId}
 use Rattle.kr_order.specs.declared.history.Command.{Command}
@@ -8,18 +8,20 @@ use Rattle.kr_order.specs.declared.ids.EventId.{EventId}
 use Rattle.kr_order.specs.declared.answer.ToldPart.{ToldPart}
 use Rattle.kr_order.specs.declared.message.Node as nodes
 use Rattle.kr_order.specs.declared.message.Node.TheVariants.{Manager as ToManager, Client as ToClient, Server as ToServer}
+use Rattle.kr_order.specs.declared.message.Message.{Message}
+use Rattle.kr_order.specs.declared.message.Message.TheVariants.{Joined}
 use Rattle.kr_order.specs.declared.message.Packet.{Packet}
 use Rattle.kr_protocol.specs.Reaction.{Reaction}
-use Rattle.kr_protocol.specs.Server.{Server, acknowledged, view_number, server_takes, server_works, server_ticks}
+use Rattle.kr_protocol.specs.Server.{Server, newcomer, acknowledged, view_number, server_takes, server_works, server_ticks}
 use Rattle.kr_protocol.specs.Client.{Client, Hearing, is_busy, unheard, begins, asks, retries, learns, client_takes}
 use Rattle.script_lang.specs.declared.script.Event.{Event}
-use Rattle.script_lang.specs.declared.script.Event.TheVariants.{Call, Query, Retry, Deliver, Lose, Tick, Work, Stop, Notice, Show, Learn}
+use Rattle.script_lang.specs.declared.script.Event.TheVariants.{Call, Query, Retry, Deliver, Lose, Tick, Work, Stop, Notice, Show, Join, Learn}
 use Rattle.kr_order.specs.View.{in_chain}
-use Rattle.kr_protocol.specs.Manager.{Manager, names, members_but, removes, announces}
+use Rattle.kr_protocol.specs.Manager.{Manager, names, members_but, may_promote, next_server, removes, adds, promotes, announces}
 use Rattle.kr_order.specs.Held.{held_events, held_pairs}
 use Rattle.kr_world.specs.declared.shown.Shown.{Shown}
 use Rattle.kr_world.specs.declared.refusal.Refusal.{Refusal}
-use Rattle.kr_world.specs.declared.refusal.Refusal.TheVariants.{NoSuchClient, NoSuchServer, NoSuchPacket, Stopped, Busy, NothingOpen, Lost, LastServer, NotStopped, NotMember, BagFull}
+use Rattle.kr_world.specs.declared.refusal.Refusal.TheVariants.{NoSuchClient, NoSuchServer, NoSuchPacket, Stopped, Busy, NothingOpen, Lost, LastServer, NotStopped, NotMember, JoinerThere, ServersSpent, BagFull}
 use Rattle.kr_world.specs.World.{World, server_at, client_at, packet_at, is_stopped, has_stopped, is_marked, marked, with_packets, bytes_of, longest}
 
 -- from this many packets on, and from this many bytes of packets on, no step that may send is taken
@@ -97,6 +99,15 @@ notice_refusal world id None = Some NoSuchServer
 notice_refusal world id (Some server) =
     if not (is_stopped world id) then Some NotStopped else if not (names world.manager.current server.id) then Some NotMember else if_full world
 
+-- so many servers are made at the most
+abbrev pub most_servers : ℕ
+most_servers = 64
+
+-- one server joins at a time
+abbrev pub join_refusal : World → Option Refusal
+join_refusal world =
+    if is_some world.manager.current.joiner then Some JoinerThere else if nat_le most_servers world.manager.made then Some ServersSpent else if_full world
+
 -- a server that has stopped shows nothing
 abbrev pub show_refusal : World → ServerId → Option Server → Option Refusal
 show_refusal world id server = server_refusal world id server None
@@ -117,6 +128,7 @@ refusal_of world (Work server workers) = turn_refusal world server (server_at wo
 refusal_of world (Stop server) = stop_refusal world server (server_at world server)
 refusal_of world (Notice server) = notice_refusal world server (server_at world server)
 refusal_of world (Show server) = show_refusal world server (server_at world server)
+refusal_of world Join = join_refusal world
 refusal_of world (Learn client) = learn_refusal (client_at world client)
 
 -- a reply that a client was told in a step
@@ -188,8 +200,26 @@ abbrev pub arrives_at_server : World → ServerId → Packet → Option Server �
 arrives_at_server world id packet None = quiet world
 arrives_at_server world id packet (Some server) = server_reacts world id (server_takes server packet)
 
+-- the manager goes on, and tells all whom its current view names of it
+abbrev pub manager_tells : World → Manager → Outcome
+manager_tells world manager = quiet (with_packets (record world { manager = manager }) (announces manager.current))
+
+-- the last member says that the joiner has caught up: it becomes a member
+abbrev pub joined_at_manager : World → ServerId → ServerId → Outcome
+joined_at_manager world from joiner =
+    if may_promote world.manager.current from joiner then manager_tells world (promotes world.manager joiner) else quiet world
+
+abbrev pub told_by_server : World → ServerId → Message → Outcome
+told_by_server world from (Joined joiner) = joined_at_manager world from joiner
+told_by_server world from other = quiet world
+
+abbrev pub arrives_at_manager : World → nodes.Node → Message → Outcome
+arrives_at_manager world ToManager message = quiet world
+arrives_at_manager world (ToClient client) message = quiet world
+arrives_at_manager world (ToServer server) message = told_by_server world server message
+
 abbrev pub arrives : World → nodes.Node → Packet → Outcome
-arrives world ToManager packet = quiet world
+arrives world ToManager packet = arrives_at_manager world packet.from packet.message
 arrives world (ToClient client) packet = arrives_at_client world client packet (client_at world client)
 arrives world (ToServer server) packet = arrives_at_server world server packet (server_at world server)
 
@@ -210,10 +240,6 @@ abbrev pub ticks_at : World → ServerId → Option Server → Outcome
 ticks_at world id None = quiet world
 ticks_at world id (Some server) = server_reacts world id (server_ticks server)
 
--- the manager goes on, and tells all whom its current view names of it
-abbrev pub manager_tells : World → Manager → Outcome
-manager_tells world manager = quiet (with_packets (record world { manager = manager }) (announces manager.current))
-
 abbrev pub ticks : World → Option ServerId → Outcome
 ticks world None = manager_tells world world.manager
 ticks world (Some server) = ticks_at world server (server_at world server)
@@ -226,6 +252,12 @@ stops world server = quiet (record world { stopped = marked world.stopped server
 abbrev pub notices : World → Option Server → Outcome
 notices world None = quiet world
 notices world (Some server) = manager_tells world (removes world.manager server.id)
+
+-- a new server joins: it has the next number
+abbrev pub joins : World → Outcome
+joins world =
+    let server = newcomer (next_server world.manager) in
+    manager_tells (record world { servers = world.servers ++ server ∷ []; stopped = world.stopped ++ false ∷ [] }) (adds world.manager)
 
 -- the client knows the current view
 abbrev pub learns_view : World → ClientId → Option Client → Outcome
@@ -261,6 +293,7 @@ act world (Work server workers) = works world server (server_at world server)
 act world (Stop server) = stops world server
 act world (Notice server) = notices world (server_at world server)
 act world (Show server) = shows world server (server_at world server)
+act world Join = joins world
 act world (Learn client) = learns_view world client (client_at world client)
 
 abbrev pub unless : World → Option Refusal → Outcome → Outcome

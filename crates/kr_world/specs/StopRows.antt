@@ -8,11 +8,11 @@ use Rattle.script_lang.specs.Line.{line}
 use Rattle.kr_world.specs.Rows.{create, retry, must, one, two}
 
 -- the server stops
-abbrev stop : ℕ → Event
+abbrev pub stop : ℕ → Event
 stop server = Stop (record { 0 = server })
 
 -- the manager hears of it
-abbrev notice : ℕ → Event
+abbrev pub notice : ℕ → Event
 notice server = Notice (record { 0 = server })
 
 -- the client learns the manager's view

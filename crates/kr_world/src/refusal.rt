@@ -28,6 +28,10 @@ pub enum Refusal {
     NotStopped,
     /// The current view does not name the server.
     NotMember,
+    /// The current view has a joiner.
+    JoinerThere,
+    /// 64 servers were made.
+    ServersSpent,
     /// Before the step 65,000 packets or more were sent, or packets of 268,435,456 bytes or more.
     BagFull,
 }
@@ -47,6 +51,8 @@ impl fmt::Display for Refusal {
             Refusal::LastServer => write!(f, "LastServer"),
             Refusal::NotStopped => write!(f, "NotStopped"),
             Refusal::NotMember => write!(f, "NotMember"),
+            Refusal::JoinerThere => write!(f, "JoinerThere"),
+            Refusal::ServersSpent => write!(f, "ServersSpent"),
             Refusal::BagFull => write!(f, "BagFull"),
         }
     }

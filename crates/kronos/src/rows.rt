@@ -15,6 +15,7 @@ mod batches;
 mod chains;
 mod create_an_event;
 mod faults;
+mod joins;
 mod queries;
 mod references;
 mod stops;

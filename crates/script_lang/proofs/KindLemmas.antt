@@ -1,5 +1,5 @@
 -- Which lines give an event, by their first word.
-use Rattle.std.proofs.Common.{◌≡◌, ◌≢◌, ℕ, ◌≤◌, List, ◌++◌, length, Option, None, Some, sym, ap, ◌∙◌, arith, append_assoc}
+use Rattle.std.proofs.Common.{◌≡◌, ◌≢◌, ℕ, ◌≤◌, List, [], ◌++◌, length, Option, None, Some, sym, ap, ◌∙◌, arith, append_assoc}
 use Rattle.std.specs.Prelude.{codes}
 use Rattle.std.specs.Fmt.{decimal}
 use Rattle.kr_order.specs.declared.ids.EventId.{EventId}
@@ -9,7 +9,7 @@ use Rattle.kr_order.specs.declared.batch.Pair.{Pair}
 use Rattle.kr_order.specs.declared.history.Command.TheVariants.{Create, Assign, Acquire, Release}
 use Rattle.kr_order.specs.Text.{pair_word, pair_words, asked_word}
 use Rattle.script_lang.specs.declared.script.Event.{Event}
-use Rattle.script_lang.specs.declared.script.Event.TheVariants.{Call, Query, Retry, Tick, Work}
+use Rattle.script_lang.specs.declared.script.Event.TheVariants.{Call, Query, Retry, Tick, Work, Join}
 use Rattle.script_lang.specs.Line.{IsWordCut}
 use Rattle.script_lang.specs.Number.{IsFromOneTo}
 use Rattle.script_lang.specs.Event.{IsPair, IsAskedPair, ArePairs, IsEvent, asked_words, event_word, event_words, event_text}
@@ -56,6 +56,12 @@ no_tick words manager none (Tick None) fit is = manager is
 no_tick words manager none (Tick (Some server)) fit is = none server.0 fit.fit is
 no_tick words manager none (Call client Create) fit is = absurd (omega (arith, ap word_key fit.named))
 no_tick words manager none event fit is = absurd (omega (arith, ap word_key fit.named))
+
+-- what stands behind join gives no event
+pub no_join : (words : List ℕ) → words ≢ [] → (event : Event) → IsEventOf (codes "join") event → words ≢ event_words event
+no_join words some Join fit is = some is
+no_join words some (Call client Create) fit is = absurd (omega (arith, ap word_key fit.named))
+no_join words some event fit is = absurd (omega (arith, ap word_key fit.named))
 
 -- which words give an assign: a client's number, and then a batch
 pub no_assign : (words : List ℕ) → ((client : ClientId) (batch : List Pair) → ReadsWord decimal (IsFromOneTo 4294967295) words client.0 (pair_words batch) → ArePairs IsPair batch → ⊥) → (event : Event) → IsEventOf (codes "assign") event → words ≢ event_words event

@@ -58,6 +58,8 @@ fn event_by(alloc: Global, word: &[u8], words: &[u8]) -> Result<Option<Event>, N
         Ok(notice_of(words))
     } else if is(word, b"show") {
         Ok(show_of(words))
+    } else if is(word, b"join") {
+        Ok(join_of(words))
     } else if is(word, b"learn") {
         Ok(learn_of(words))
     } else {
@@ -208,6 +210,16 @@ fn show_of(words: &[u8]) -> Option<Event>
 {
     let server = one_number(words, MOST)?;
     Some(Event::Show(ServerId(server as u32)))
+}
+
+// The event of `join`, behind the word, where nothing may stand.
+fn join_of(words: &[u8]) -> Option<Event>
+    ensures { Spells event_words (IsEventOf (codes "join")) words.now result }
+{
+    if !words.is_empty() {
+        return None;
+    }
+    Some(Event::Join)
 }
 
 // The event of `learn c`, behind the first word.

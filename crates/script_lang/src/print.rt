@@ -53,6 +53,7 @@ fn add_event_word(out: &mut Vec<u8>, event: &Event) -> Result<(), NoMemory>
         Event::Stop(_) => add_text(out, b"stop"),
         Event::Notice(_) => add_text(out, b"notice"),
         Event::Show(_) => add_text(out, b"show"),
+        Event::Join => add_text(out, b"join"),
         Event::Learn(_) => add_text(out, b"learn"),
     }
 }
@@ -81,6 +82,7 @@ fn add_event_words(out: &mut Vec<u8>, event: &Event) -> Result<(), NoMemory>
         Event::Stop(server) | Event::Notice(server) | Event::Show(server) => {
             add_number_word(out, u64::from(server.0))
         }
+        Event::Join => Ok(()),
         Event::Learn(client) => add_number_word(out, u64::from(client.0)),
     }
 }

@@ -41,6 +41,8 @@ pub enum Event {
     Notice(ServerId),
     /// `show s`: what the server holds is printed.
     Show(ServerId),
+    /// `join`: a new server is to become the last member of the chain.
+    Join,
     /// `learn c`: the client learns the manager's current view.
     Learn(ClientId),
 }
@@ -86,6 +88,7 @@ impl Copied for Event {
             Event::Stop(server) => Ok(Event::Stop(*server)),
             Event::Notice(server) => Ok(Event::Notice(*server)),
             Event::Show(server) => Ok(Event::Show(*server)),
+            Event::Join => Ok(Event::Join),
             Event::Learn(client) => Ok(Event::Learn(*client)),
         }
     }

@@ -27,6 +27,7 @@ work 1 8
 stop 4294967295
 notice 1
 show 10
+join
 learn 4294967295
 ";
 
@@ -80,7 +81,10 @@ fn every_event_stands_beside_any_number_of_servers(rt: HostRuntime) -> Result<()
             "cluster 8 1\nacquire 1 1\nrelease 1 1\nretry 1 8\nlose 1\ntick 8\nshow 8\n",
             None,
         ),
-        ("cluster 1 1\ntick 0\nstop 1\nnotice 1\nlearn 1\n", None),
+        (
+            "cluster 1 1\ntick 0\nstop 1\nnotice 1\njoin\nlearn 1\n",
+            None,
+        ),
     ] {
         let stop = read_script(rt.alloc(), text.as_bytes()).err();
         assert_eq!(rt; stop, bad_line.map(ScriptStop::BadLine), "at {text}");
@@ -171,6 +175,11 @@ fn a_line_in_another_spelling_is_bad(rt: HostRuntime) -> Result<(), Fail> {
         "show 0",
         "shows 1",
         "show s1",
+        "join ",
+        "join 1",
+        "join join",
+        "joins",
+        " join",
         "learn",
         "learn 0",
         "learn 1 1",
@@ -199,6 +208,7 @@ fn a_last_line_without_its_end_is_bad(rt: HostRuntime) -> Result<(), Fail> {
         "tick 0",
         "stop 1",
         "show 1",
+        "join",
         "learn 1",
     ] {
         let text = format!(in rt.alloc(); "cluster 1 1\nshow 1\n{line}")?;
@@ -228,7 +238,7 @@ fn what_was_read_is_printed_as_it_was(rt: HostRuntime) -> Result<(), Fail> {
     let script = read_script(alloc, EACH_KIND.as_bytes())?;
     assert_eq!(rt; script.servers, 1);
     assert_eq!(rt; script.clients, 16);
-    assert_eq!(rt; script.events.len(), 16);
+    assert_eq!(rt; script.events.len(), 17);
     let mut printed = print_first(alloc, script.servers, script.clients)?;
     for event in script.events.as_slice() {
         let copy = event.copy(alloc)?;

@@ -1,12 +1,13 @@
 //! Acknowledgements of the next server.
 
-ghost use Rattle.std.specs.Prelude.{◌≡◌, ◌^◌, ◌≤◌, length, min, false, IfOk, OnOk, OnErr};
-ghost use Rattle.kr_protocol.specs.Server.{ack, sends, feeds, acknowledges, after_ack};
+ghost use Rattle.std.specs.Prelude.{◌≡◌, ◌^◌, ◌≤◌, ◌&&◌, nat_le, length, min, false, IfOk, OnOk, OnErr};
+ghost use Rattle.kr_protocol.specs.Server.{ack, sends, is_server, behind, follows, feeds, acknowledges, tells_joined, after_ack};
 ghost use Rattle.chain_server.specs.Calls.{Does, AddsTo};
 
-use super::{Server, is_server};
+use super::Server;
+use super::viewed::is_server;
 use crate::Effects;
-use kr_order::{NoMemory, Packets, ServerId};
+use kr_order::{Message, NoMemory, Node, Packet, Packets, ServerId};
 use order_state::Board;
 
 impl<B: Board> Server<B> {
@@ -56,6 +57,56 @@ impl<B: Board> Server<B> {
         Ok(effects)
     }
 
+    // So many entries are acknowledged to the next server, and it has so many.
+    fn hear(&mut self, done: u64, len: u64) -> Result<Effects, NoMemory>
+        requires { self.old.failed ≡ false }
+        ensures { Does self.old (follows (acknowledges self.old.server (min done (length self.old.server.log))) (λ after. feeds after (min len (length after.log)))) result self.new }
+    {
+        let upto = done.min(self.log.len());
+        let effects = self.acknowledge(upto)?;
+        self.feed(len, effects)
+    }
+
+    // Whether that server, which has so many entries, is the joiner, and has as many as it has to have.
+    fn has_caught_up(&self, from: ServerId, len: u64) -> bool
+        ensures { result ≡ (is_server (behind self.now.server) from && nat_le self.now.server.need len) }
+    {
+        is_server(self.behind(), from) && self.need <= len
+    }
+
+    // What the manager is told then: that the joiner has caught up.
+    fn caught_up(&self, from: ServerId, len: u64) -> Result<Packets, NoMemory>
+        ensures { IfOk result (λ packets. packets ≡ (tells_joined self.now.server from len).sent) }
+    {
+        let mut packets = Packets::new(self.alloc);
+        if !self.has_caught_up(from, len) {
+            return Ok(packets);
+        }
+        packets.push(Packet {
+            from: Node::Server(self.id),
+            to: Node::Manager,
+            message: Message::Joined { joiner: from },
+        })?;
+        Ok(packets)
+    }
+
+    // The manager is told so behind this.
+    fn tell_joined(
+        &mut self,
+        from: ServerId,
+        len: u64,
+        mut effects: Effects,
+    ) -> Result<Effects, NoMemory>
+        requires { self.old.failed ≡ false }
+        ensures { AddsTo effects self.old (tells_joined self.old.server from len) result self.new }
+    {
+        self.failed = true;
+        let packets = self.caught_up(from, len)?;
+        effects.packets.append(packets)?;
+        self.failed = false;
+        Ok(effects)
+    }
+
     // The next server tells how many entries are acknowledged to it, and how many its log has.
     pub(super) fn take_ack(
         &mut self,
@@ -69,8 +120,7 @@ impl<B: Board> Server<B> {
         if !is_server(self.link.next(), from) {
             return Ok(Effects::none(self.alloc));
         }
-        let upto = done.min(self.log.len());
-        let effects = self.acknowledge(upto)?;
-        self.feed(len, effects)
+        let effects = self.hear(done, len)?;
+        self.tell_joined(from, len, effects)
     }
 }

@@ -5,7 +5,8 @@ ghost use Rattle.kr_protocol.specs.Server.{acknowledged, appended, missing, ack_
 ghost use Rattle.chain_server.specs.Calls.{Does, AddsTo};
 ghost use Rattle.chain_server.specs.Parts.{passed_on_by};
 
-use super::{Server, is_server};
+use super::Server;
+use super::viewed::is_server;
 use crate::Effects;
 use chain_link::receive;
 use kr_order::{Entries, NoMemory, Packets, ServerId};
@@ -31,7 +32,7 @@ impl<B: Board> Server<B> {
         requires { self.old.failed ≡ false }
         ensures { Does self.old (advances_at_tail self.old.server) result self.new }
     {
-        if !self.view.is_tail(self.id) {
+        if !self.is_at_tail() {
             return Ok(Effects::none(self.alloc));
         }
         let len = self.log.len();
@@ -78,7 +79,7 @@ impl<B: Board> Server<B> {
         requires { self.old.failed ≡ false }
         ensures { Does self.old (after_append self.old.server from first entries.now) result self.new }
     {
-        if !is_server(self.view.prev_of(self.id), from) {
+        if !is_server(self.prev(), from) {
             return Ok(Effects::none(self.alloc));
         }
         let taken = self.grow(first, entries)?;

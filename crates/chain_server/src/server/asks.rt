@@ -7,7 +7,7 @@ ghost use Rattle.chain_server.specs.Parts.{tells_view};
 
 use super::Server;
 use crate::Effects;
-use crate::told::{is_for_tail, refer, work_packets};
+use crate::told::{is_for_tail, referrals, work_packets};
 use kr_order::{Asked, ClientId, Listed, NoMemory, Query};
 use order_state::Board;
 use std::thread::Threads;
@@ -42,19 +42,19 @@ impl<B: Board> Server<B> {
         Ok(Effects::none(self.alloc))
     }
 
-    // The client is told of the view.
+    // The client is told of the view that the server has adopted, if it has one.
     fn refer_to_view(&mut self, client: ClientId, q: u64, part: u8) -> Result<Effects, NoMemory>
         requires { self.old.failed ≡ false }
         ensures { Does self.old (tells_view self.old.server client q part) result self.new }
     {
         self.failed = true;
-        let packet = refer(self.alloc, self.id, &self.view, client, q, part)?;
-        let effects = Effects::of_packet(self.alloc, packet)?;
+        let packets = referrals(self.alloc, self.id, &self.view, client, q, part)?;
         self.failed = false;
-        Ok(effects)
+        Ok(Effects::of_packets(self.alloc, packets))
     }
 
     // A client asks about pairs of events.
+    #[tactic(auto, using(crate::proofs::AskLemmas::stranger_refers, crate::proofs::AskLemmas::other_refers, crate::proofs::AskLemmas::member_waits))]
     pub(super) fn take_ask(
         &mut self,
         client: ClientId,
@@ -65,8 +65,8 @@ impl<B: Board> Server<B> {
         requires { self.old.failed ≡ false }
         ensures { Does self.old (after_ask self.old.server (query_of client q part pairs.now)) result self.new }
     {
-        let member = self.view.in_chain(self.id);
-        if !member || is_for_tail(self.view.is_tail(self.id), part) {
+        let member = self.is_member();
+        if !member || is_for_tail(self.is_at_tail(), part) {
             self.refer_to_view(client, q, part)
         } else {
             self.wait(client, q, part, pairs)

@@ -3,7 +3,7 @@
 ghost use Rattle.std.specs.Prelude.{◌≡◌, ◌<◌, [], ◌∷◌, true, false, IfOk, OnOk, OnErr};
 ghost use Rattle.kr_order.specs.Done.{done_of, last_of};
 ghost use Rattle.kr_order.specs.History.{highest_seq};
-ghost use Rattle.kr_protocol.specs.Server.{acknowledged, appended, is_first, settles, enters, enters_new, after_request};
+ghost use Rattle.kr_protocol.specs.Server.{acknowledged, appended, settles, enters, enters_new, after_request};
 ghost use Rattle.chain_server.specs.Calls.{Does};
 ghost use Rattle.chain_server.specs.Parts.{entry_of, replies_again};
 
@@ -14,13 +14,6 @@ use kr_order::{ClientId, Command, Copied, Entry, NoMemory};
 use order_state::Board;
 
 impl<B: Board> Server<B> {
-    // Whether the server is the first member of its chain.
-    fn is_first(&self) -> bool
-        ensures { result ≡ is_first self.now.server }
-    {
-        self.view.in_chain(self.id) && self.view.prev_of(self.id).is_none()
-    }
-
     // The entry goes to the end of the log.
     fn append(&mut self, entry: Entry) -> Result<(), NoMemory>
         requires { self.old.failed ≡ false }
@@ -39,7 +32,7 @@ impl<B: Board> Server<B> {
         requires { self.old.failed ≡ false }
         ensures { Does self.old (settles self.old.server) result self.new }
     {
-        if self.view.is_tail(self.id) {
+        if self.is_at_tail() {
             let len = self.log.len();
             return self.advance(len);
         }
@@ -107,7 +100,7 @@ impl<B: Board> Server<B> {
         requires { self.old.failed ≡ false }
         ensures { Does self.old (after_request self.old.server client seq command.now) result self.new }
     {
-        if !self.view.in_chain(self.id) {
+        if !self.is_member() {
             return Ok(Effects::none(self.alloc));
         }
         if self.log.highest_seq(client) < seq {

@@ -39,7 +39,7 @@ impl<B: Board> Server<B> {
     pub(super) fn ack(&self) -> Result<Packets, NoMemory>
         ensures { IfOk result (λ packets. packets ≡ ack self.now.server) }
     {
-        self.ack_to(self.view.prev_of(self.id))
+        self.ack_to(self.prev())
     }
 
     // What the server sends when its time has come.

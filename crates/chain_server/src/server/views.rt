@@ -1,11 +1,12 @@
 //! Views that the manager makes.
 
-ghost use Rattle.std.specs.Prelude.{◌≡◌, true, false, OnOk, OnErr};
+ghost use Rattle.std.specs.Prelude.{◌≡◌, Some, true, false, OnOk, OnErr};
 ghost use Rattle.kr_protocol.specs.Manager.{names};
-ghost use Rattle.kr_protocol.specs.Server.{acknowledged, server_ticks, viewing, may_adopt, adopts, after_view};
+ghost use Rattle.kr_protocol.specs.Server.{acknowledged, server_ticks, need_then, viewing, may_adopt, adopts, after_view};
 ghost use Rattle.chain_server.specs.Calls.{Does, AddsTo};
 
 use super::Server;
+use super::viewed::{are_same, joiner_behind};
 use crate::Effects;
 use kr_order::{Copied, NoMemory, ServerId, View};
 use order_state::Board;
@@ -26,7 +27,19 @@ impl<B: Board> Server<B> {
     fn may_adopt(&self, view: &View) -> bool
         ensures { result ≡ may_adopt self.now.server view.now }
     {
-        self.view.number < view.number && names(view, self.id)
+        self.view_number() < view.number && names(view, self.id)
+    }
+
+    // How many entries a joiner has to have by the view: as many as this server had when it first saw that it joins.
+    fn need_then(&self, view: &View) -> u64
+        ensures { result ≡ need_then self.now.server (record self.now.server { view = Some view.now }) }
+    {
+        let joiner = joiner_behind(view, self.id);
+        if joiner.is_none() || are_same(self.behind(), joiner) {
+            self.need
+        } else {
+            self.log.len()
+        }
     }
 
     // This is the server's view from now on. Who follows it by that, where it is another, is not known to have any entry.
@@ -37,8 +50,10 @@ impl<B: Board> Server<B> {
         ensures err { OnErr result (self.new.failed ≡ true) }
     {
         self.failed = true;
-        self.view = view.copy(self.alloc)?;
-        self.link.aim(self.view.next_of(self.id));
+        let adopted = view.copy(self.alloc)?;
+        self.need = self.need_then(view);
+        self.link.aim(view.next_of(self.id));
+        self.view = Some(adopted);
         self.failed = false;
         Ok(())
     }

@@ -3,14 +3,15 @@
 ghost use Rattle.std.specs.Prelude.{◌≡◌, ◌<◌, length, slice_set, slice_get, true, false, IfOk, IsSome, None, Some};
 ghost use Rattle.kr_order.specs.declared.message.Packet.{Packet};
 ghost use Rattle.kr_world.specs.World.{client_at, server_at, packet_at, is_stopped};
-ghost use Rattle.kr_world.specs.Step.{deliver_refusal, arrives_at_client, arrives_at_server, delivers, loses};
+ghost use Rattle.kr_world.specs.Step.{deliver_refusal, arrives_at_client, arrives_at_server, arrives_at_manager, delivers, loses};
 ghost use Rattle.cluster_sim.specs.Parts.{world_of, IsWhole, Makes};
 
 use crate::parts::{Bag, Noted, Parts};
 use crate::refusals::index_of;
 use crate::step::calls::hear;
 use crate::step::turns::settle;
-use kr_order::{ClientId, NoMemory, Node, ServerId};
+use crate::step::views::promote;
+use kr_order::{ClientId, Message, NoMemory, Node, ServerId};
 use std::alloc::Global;
 
 // A packet arrives at a client, which hears it.
@@ -56,6 +57,24 @@ fn arrive_at_server(
     Ok(Noted::nothing())
 }
 
+// A packet arrives at the manager, which hears of a joiner.
+fn arrive_at_manager(parts: &mut Parts, k: usize) -> Result<Noted, NoMemory>
+    requires whole { IsWhole parts.old }
+    requires there { k < length parts.old.bag.packets }
+    ensures { (packet : Packet) → slice_get parts.old.bag.packets k ≡ Some packet → IfOk result (Makes (arrives_at_manager (world_of parts.old) packet.from packet.message) parts.new) }
+{
+    let Some(packet) = parts.bag.packets.get(k) else {
+        return Ok(Noted::nothing());
+    };
+    match (packet.from, &packet.message) {
+        (Node::Server(from), Message::Joined { joiner }) => {
+            let joiner = *joiner;
+            promote(parts, from, joiner)
+        }
+        _ => Ok(Noted::nothing()),
+    }
+}
+
 // Marks the packet at the index as delivered.
 fn mark_delivered(bag: &mut Bag, i: usize)
     requires { i < length bag.old.delivered.items }
@@ -91,7 +110,7 @@ pub fn deliver(alloc: Global, parts: &mut Parts, k: u64) -> Result<Noted, NoMemo
     let to = packet.to;
     mark_delivered(&mut parts.bag, i);
     match to {
-        Node::Manager => Ok(Noted::nothing()),
+        Node::Manager => arrive_at_manager(parts, i),
         Node::Client(client) => arrive_at_client(parts, client, i),
         Node::Server(server) => arrive_at_server(alloc, parts, server, i),
     }

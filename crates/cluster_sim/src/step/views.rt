@@ -1,15 +1,20 @@
 //! Servers stop, the manager makes views, and clients learn them.
 
-ghost use Rattle.std.specs.Prelude.{◌≡◌, ◌≢◌, [], ◌∷◌, true, None, IfOk, OnOk};
-ghost use Rattle.kr_protocol.specs.Manager.{names, removes};
+ghost use Rattle.std.specs.Prelude.{◌≡◌, ◌≢◌, ◌<◌, [], ◌∷◌, ◌++◌, true, false, None, IfOk, OnOk};
+ghost use Rattle.kr_protocol.specs.Manager.{names, next_server, removes, adds, views_of};
+ghost use Rattle.kr_protocol.specs.Server.{newcomer};
 ghost use Rattle.kr_world.specs.World.{client_at, server_at};
-ghost use Rattle.kr_world.specs.Step.{stop_refusal, notice_refusal, learn_refusal, manager_tells, stops, notices, learns_view};
+ghost use Rattle.kr_world.specs.Step.{stop_refusal, notice_refusal, join_refusal, learn_refusal, manager_tells, joined_at_manager, stops, notices, joins, learns_view};
+ghost use Rattle.kr_world.specs.Sound.{HasJoined};
 ghost use Rattle.cluster_sim.specs.Parts.{world_of, IsWhole, Makes};
 
 use crate::parts::{Noted, Parts};
 use crate::refusals::index_of;
-use chain_manager::{Deny, Manager};
+use chain_manager::{Deny, MOST_SERVERS, Manager};
+use chain_server::Server;
 use kr_order::{ClientId, NoMemory, ServerId};
+use order_state::PlainBoard;
+use std::alloc::Global;
 
 /// The manager tells all whom its current view names of it.
 pub fn tell(parts: &mut Parts) -> Result<Noted, NoMemory>
@@ -54,6 +59,60 @@ pub fn notice(parts: &mut Parts, server: ServerId) -> Result<Noted, NoMemory>
     let id = parts.servers[index_of(u64::from(server.0))].id();
     remove(&mut parts.manager, id)?;
     tell(parts)
+}
+
+// A new server, with nothing in its log and no view, is behind the others.
+fn add(alloc: Global, parts: &mut Parts, id: ServerId) -> Result<(), NoMemory>
+    ensures manager { parts.new.manager ≡ parts.old.manager }
+    ensures servers { OnOk result (parts.new.servers.items ≡ parts.old.servers.items ++ record { server = newcomer id; failed = false } ∷ []) }
+    ensures stopped { OnOk result (parts.new.stopped.items ≡ parts.old.stopped.items ++ false ∷ []) }
+    ensures clients { parts.new.clients ≡ parts.old.clients }
+    ensures bag { parts.new.bag ≡ parts.old.bag }
+    ensures journal { parts.new.journal ≡ parts.old.journal }
+{
+    parts
+        .servers
+        .push(Server::joiner(alloc, id, PlainBoard::new(alloc)))?;
+    parts.stopped.push(false)?;
+    Ok(())
+}
+
+// The manager makes the view with a new server as its joiner.
+fn welcome(manager: &mut Manager) -> Result<ServerId, NoMemory>
+    requires none { manager.old.current.joiner ≡ None }
+    requires few { manager.old.made < MOST_SERVERS }
+    ensures id { IfOk result (λ id. id ≡ next_server manager.old) }
+    ensures new { OnOk result (manager.new ≡ adds manager.old) }
+{
+    match manager.join() {
+        Ok((id, _)) => Ok(id),
+        Err(Deny::NoMemory) => Err(NoMemory),
+        Err(_) => unreachable!(),
+    }
+}
+
+/// A new server joins: the manager makes the next view, of which it is the joiner, and tells of it.
+pub fn join(alloc: Global, parts: &mut Parts) -> Result<Noted, NoMemory>
+    requires whole { IsWhole parts.old }
+    requires free { join_refusal (world_of parts.old) ≡ None }
+    ensures { IfOk result (Makes (joins (world_of parts.old)) parts.new) }
+{
+    let id = welcome(&mut parts.manager)?;
+    add(alloc, parts, id)?;
+    tell(parts)
+}
+
+/// The manager is told that the joiner has caught up: where the last member says so, it becomes a member, and the manager
+/// tells of that.
+pub fn promote(parts: &mut Parts, from: ServerId, joiner: ServerId) -> Result<Noted, NoMemory>
+    requires whole { IsWhole parts.old }
+    requires said { HasJoined (views_of parts.old.manager) (world_of parts.old).servers from joiner }
+    ensures { IfOk result (Makes (joined_at_manager (world_of parts.old) from joiner) parts.new) }
+{
+    match parts.manager.joined(from, joiner)? {
+        None => Ok(Noted::nothing()),
+        Some(_) => tell(parts),
+    }
 }
 
 /// The client learns the manager's current view.

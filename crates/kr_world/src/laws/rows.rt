@@ -6,6 +6,7 @@ ghost use Rattle.kr_world.specs.Run.{text_of};
 ghost use Rattle.kr_world.specs.ChainRows.{three_servers, three_servers_text, down_the_chain, down_the_chain_text, entries_come_again, entries_come_again_text, lost_on_the_way, lost_on_the_way_text};
 ghost use Rattle.kr_world.specs.HeldRows.{events_released, events_released_text};
 ghost use Rattle.kr_world.specs.QueryRows.{concurrent_events, concurrent_events_text, bound_events, bound_events_text, asked_at_the_head, asked_at_the_head_text};
+ghost use Rattle.kr_world.specs.JoinRows.{tail_joins, tail_joins_text};
 ghost use Rattle.kr_world.specs.StopRows.{head_stops, head_stops_text, tail_stops, tail_stops_text, one_of_two_is_new, one_of_two_is_new_text};
 ghost use Rattle.kr_world.specs.Rows.{create_an_event, create_an_event_text, request_delivered_twice, request_delivered_twice_text, request_tried_again, request_tried_again_text, refused_steps, refused_steps_text, two_events, two_events_text};
 
@@ -99,4 +100,10 @@ pub fn a_new_tail_replies_for_the_old_one()
 /// A server that becomes the tail acknowledges entries of which the history has some: it grows by the others.
 pub fn a_new_tail_tells_what_is_new()
     ensures { text_of one_of_two_is_new ≡ one_of_two_is_new_text }
+{}
+
+/// A server joins while the tail has not learnt of it, and the tail stops once the joiner is a member: the new tail tells
+/// what the old one had taken.
+pub fn a_joiner_becomes_the_tail()
+    ensures { text_of tail_joins ≡ tail_joins_text }
 {}
