@@ -1,0 +1,14 @@
+//! Laws of what is sent. Each function does nothing: its contract is the law, whose proof is checked with it.
+
+ghost use Rattle.wire_fit.specs.Runs.{RunsKeepPackets};
+ghost use Rattle.wire_fit.specs.Spoken.{WorldsAreSpoken};
+
+/// Every packet in the bag of every world of a run has a spelling.
+pub fn worlds_are_spoken()
+    ensures { WorldsAreSpoken }
+{}
+
+/// Each packet that is in the bag after a step of a script's run is read again of its spelling.
+pub fn runs_keep_packets()
+    ensures { RunsKeepPackets }
+{}
