@@ -1,5 +1,5 @@
 -- What a change of the parts makes of their world.
-use Rattle.std.proofs.Common.{zero, suc, ◌≡◌, ℕ, ◌+◌, ◌-◌, ◌<◌, ◌≤◌, Bool, true, false, List, [], ◌∷◌, ◌++◌, length, drop, refl, sym, ap, ◌∙◌, subst, arith, inl, inr}
+use Rattle.std.proofs.Common.{zero, suc, ◌≡◌, ℕ, ◌+◌, ◌-◌, ◌^◌, ◌<◌, ◌≤◌, Bool, true, false, List, [], ◌∷◌, ◌++◌, length, drop, refl, sym, ap, ◌∙◌, subst, arith, inl, inr}
 use Rattle.std.specs.Prelude.{Option, None, Some, Result, Ok, Err, IfOk, map, slice_get, slice_set, All}
 use Rattle.std.specs.Result.{OnOk}
 use Rattle.std.specs.Option.{option_map}
@@ -31,21 +31,27 @@ use Rattle.client_session.specs.Calls.{Opens, OpensQuery, Accepts, Heeds}
 use Rattle.chain_server.specs.declared.effects.Effects.{Effects}
 use Rattle.chain_server.specs.ServerStanding.{ServerStanding}
 use Rattle.chain_server.specs.Calls.{Heeds as ServerHeeds}
-use Rattle.kr_world.specs.World.{World, client_at, server_at, is_stopped, marked, with_packets, longest}
-use Rattle.kr_world.specs.declared.refusal.Refusal.TheVariants.{NoSuchClient}
-use Rattle.kr_world.specs.Step.{if_full, turn_refusal, call_refusal, query_refusal, retry_refusal, told_to, parts_to, client_sends, client_hears, client_calls, client_asks, client_retries, server_reacts, arrives_at_client, arrives_at_server, works, ticks_at, step}
-use Rattle.kr_world.specs.Sound.{IsSound, IsSoundPacket}
+use Rattle.kr_world.specs.World.{World, client_at, server_at, packet_at, is_stopped, has_stopped, marked, with_packets, longest}
+use Rattle.kr_world.specs.declared.refusal.Refusal.TheVariants.{NoSuchClient, NoSuchPacket}
+use Rattle.kr_world.specs.Step.{Outcome, if_full, turn_refusal, call_refusal, query_refusal, retry_refusal, deliver_refusal, lose_refusal, refusal_of, told_to, parts_to, client_sends, client_hears, client_calls, client_asks, client_retries, server_reacts, arrives_at_client, arrives_at_server, arrives, delivers, loses, works, ticks_at, act, unless, step}
+use Rattle.kr_world.specs.Sound.{IsSound, IsSoundPacket, HaveBegun}
+use Rattle.wire_fit.specs.Spoken.{IsSpoken}
+use Rattle.wire_fit.proofs.SpokenLemmas.{worlds_spoken}
+use Rattle.kr_wire.specs.Valid.{IsPacket}
 use Rattle.script_lang.specs.declared.script.Event.{Event}
+use Rattle.script_lang.specs.Event.{IsEvent}
+use Rattle.kr_order.specs.declared.message.Node.{Node}
+use Rattle.kr_order.specs.declared.message.Node.TheVariants.{Server as AtServer}
 use Rattle.kr_world.proofs.SoundLemmas.{takes_within, work_within, tick_within, worlds_sound}
 use Rattle.kr_world.proofs.BagLemmas.{delivered_sound}
-use Rattle.kr_world.proofs.StepLemmas.{may_turn}
+use Rattle.kr_world.proofs.StepLemmas.{at_index, may_turn, may_deliver}
 use Rattle.kr_world.proofs.SeatLemmas.{IsSeated, seated, own_of}
 use Rattle.kr_world.proofs.BoundsLemmas.{IsWithinBounds}
 use Rattle.kr_world.proofs.ReactionLemmas.{HistoryGrows, grows_or_stays}
-use Rattle.cluster_sim.specs.declared.parts.Bag.{Bag}
+use Rattle.cluster_sim.specs.BagStanding.{BagStanding, IsNumbered, IsSent}
 use Rattle.cluster_sim.specs.declared.parts.Parts.{Parts}
 use Rattle.cluster_sim.specs.declared.parts.Noted.{Noted}
-use Rattle.cluster_sim.specs.Parts.{history_of, world_of, IsCounted, IsSent, IsWhole, IsNotedOf, noted, Makes}
+use Rattle.cluster_sim.specs.Parts.{history_of, world_of, IsWhole, IsAtRest, IsNotedOf, noted, Makes}
 
 -- the node of a client in the parts is that of their world
 pub client_there : (parts : Parts) (client : ClientId) (node : ClientStanding) → slice_get parts.clients.items (client.0 - 1) ≡ Some node → client_at (world_of parts) client ≡ Some node.client
@@ -70,23 +76,23 @@ abbrev pub nothing_noted : Noted
 nothing_noted = record { told = None; parts = None; shown = None; refused = None }
 
 -- the world of parts whose bag has more packets
-bag_after : (parts : Parts) (bag : Bag) (packets : List Packet) → IsSent parts.bag bag packets → world_of (record parts { bag = bag }) ≡ with_packets (world_of parts) packets
+bag_after : (parts : Parts) (bag : BagStanding) (packets : List Packet) → IsSent parts.bag bag packets → world_of (record parts { bag = bag }) ≡ with_packets (world_of parts) packets
 bag_after parts bag packets sent =
     let packets_are = sent.packets_are in
     let lost = sent.lost in
     let delivered = sent.delivered in
     let f : List Packet → List Bool → List Bool → World = λ ps ls ds. record (world_of parts) { bag = ps; lost = ls; delivered = ds } in
-    ap (λ ps. f ps bag.lost.items bag.delivered.items) packets_are ∙ ap (λ ls. f (parts.bag.packets ++ packets) ls bag.delivered.items) lost ∙ ap (f (parts.bag.packets ++ packets) (parts.bag.lost.items ++ map (λ packet. false) packets)) delivered
+    ap (λ ps. f ps bag.lost bag.delivered) packets_are ∙ ap (λ ls. f (parts.bag.packets ++ packets) ls bag.delivered) lost ∙ ap (f (parts.bag.packets ++ packets) (parts.bag.lost ++ map (λ packet. false) packets)) delivered
 
 -- what a client has done: its node and the bag have changed, and what it is told was noted
-client_did : (parts : Parts) (clients : Vec ClientStanding Global) (bag : Bag) (client : ClientId) (new : ClientStanding) (after : Client) (sent packets : List Packet) → IsWhole parts → clients.items ≡ slice_set parts.clients.items (client.0 - 1) new → new ≡ record { client = after; failed = false } → packets ≡ sent → IsSent parts.bag bag packets → world_of (record parts { clients = clients; bag = bag }) ≡ (client_sends (world_of parts) client (record { after = after; sent = sent })).after
+client_did : (parts : Parts) (clients : Vec ClientStanding Global) (bag : BagStanding) (client : ClientId) (new : ClientStanding) (after : Client) (sent packets : List Packet) → IsWhole parts → clients.items ≡ slice_set parts.clients.items (client.0 - 1) new → new ≡ record { client = after; failed = false } → packets ≡ sent → IsSent parts.bag bag packets → world_of (record parts { clients = clients; bag = bag }) ≡ (client_sends (world_of parts) client (record { after = after; sent = sent })).after
 client_did parts clients bag client new after sent packets whole is done sends put =
     let nodes = clients_after parts clients (client.0 - 1) new after is (ap (λ (s : ClientStanding). s.client) done) in
     let bags = bag_after (record parts { clients = clients }) bag packets put in
     let w = world_of parts in
     bags ∙ ap (λ cs. with_packets (record w { clients = cs }) packets) nodes ∙ ap (with_packets (record w { clients = slice_set w.clients (client.0 - 1) after })) sends
 
-client_sent : (parts : Parts) (clients : Vec ClientStanding Global) (bag : Bag) (client : ClientId) (new : ClientStanding) (reaction : Reaction Client) (packet : Packet) → IsWhole parts → clients.items ≡ slice_set parts.clients.items (client.0 - 1) new → new ≡ record { client = reaction.after; failed = false } → reaction.sent ≡ packet ∷ [] → IsSent parts.bag bag (packet ∷ []) → Makes (client_sends (world_of parts) client reaction) (record parts { clients = clients; bag = bag }) nothing_noted
+client_sent : (parts : Parts) (clients : Vec ClientStanding Global) (bag : BagStanding) (client : ClientId) (new : ClientStanding) (reaction : Reaction Client) (packet : Packet) → IsWhole parts → clients.items ≡ slice_set parts.clients.items (client.0 - 1) new → new ≡ record { client = reaction.after; failed = false } → reaction.sent ≡ packet ∷ [] → IsSent parts.bag bag (packet ∷ []) → Makes (client_sends (world_of parts) client reaction) parts.bag.before (record parts { clients = clients; bag = bag }) nothing_noted
 client_sent parts clients bag client new reaction packet whole is after sends sent =
     record {
       after = client_did parts clients bag client new reaction.after reaction.sent (packet ∷ []) whole is after (sym sends) sent;
@@ -97,11 +103,11 @@ client_sent parts clients bag client new reaction packet whole is after sends se
       servers = whole.servers;
       clients = clients_whole parts.clients.items clients.items (client.0 - 1) new is (ap (λ (s : ClientStanding). s.failed) after) whole.clients;
       journal = whole.journal;
-      counted = sent.counted;
+      since = sent.before;
     }
 
 -- a client has heard something, or asked
-client_heeds : (parts : Parts) (clients : Vec ClientStanding Global) (bag : Bag) (client : ClientId) (new : ClientStanding) (hearing : Hearing) (heard : Heard) (noting : Noted) → IsWhole parts → clients.items ≡ slice_set parts.clients.items (client.0 - 1) new → Heeds hearing heard new → IsSent parts.bag bag heard.packets → IsNotedOf client heard noting → Makes (client_hears (world_of parts) client hearing) (record parts { clients = clients; bag = bag }) noting
+client_heeds : (parts : Parts) (clients : Vec ClientStanding Global) (bag : BagStanding) (client : ClientId) (new : ClientStanding) (hearing : Hearing) (heard : Heard) (noting : Noted) → IsWhole parts → clients.items ≡ slice_set parts.clients.items (client.0 - 1) new → Heeds hearing heard new → IsSent parts.bag bag heard.packets → IsNotedOf client heard noting → Makes (client_hears (world_of parts) client hearing) parts.bag.before (record parts { clients = clients; bag = bag }) noting
 client_heeds parts clients bag client new hearing heard noting whole is heeds sent notes =
     record {
       after = client_did parts clients bag client new hearing.after hearing.sent heard.packets whole is heeds.after heeds.sent sent;
@@ -112,23 +118,23 @@ client_heeds parts clients bag client new hearing heard noting whole is heeds se
       servers = whole.servers;
       clients = clients_whole parts.clients.items clients.items (client.0 - 1) new is (ap (λ (s : ClientStanding). s.failed) heeds.after) whole.clients;
       journal = whole.journal;
-      counted = sent.counted;
+      since = sent.before;
     }
 
 -- a client's command
-pub client_called : (parts : Parts) (clients : Vec ClientStanding Global) (bag : Bag) (client : ClientId) (command : Command) (old new : ClientStanding) (packet : Packet) → IsWhole parts → slice_get parts.clients.items (client.0 - 1) ≡ Some old → clients.items ≡ slice_set parts.clients.items (client.0 - 1) new → Opens old command packet new → IsSent parts.bag bag (packet ∷ []) → Makes (client_calls (world_of parts) client command (client_at (world_of parts) client)) (record parts { clients = clients; bag = bag }) nothing_noted
+pub client_called : (parts : Parts) (clients : Vec ClientStanding Global) (bag : BagStanding) (client : ClientId) (command : Command) (old new : ClientStanding) (packet : Packet) → IsWhole parts → slice_get parts.clients.items (client.0 - 1) ≡ Some old → clients.items ≡ slice_set parts.clients.items (client.0 - 1) new → Opens old command packet new → IsSent parts.bag bag (packet ∷ []) → Makes (client_calls (world_of parts) client command (client_at (world_of parts) client)) parts.bag.before (record parts { clients = clients; bag = bag }) nothing_noted
 client_called parts clients bag client command old new packet whole there is opens sent =
-    subst (λ found. Makes (client_calls (world_of parts) client command found) (record parts { clients = clients; bag = bag }) nothing_noted) (sym (client_there parts client old there)) (client_sent parts clients bag client new (begins old.client command) packet whole is opens.after opens.sent sent)
+    subst (λ found. Makes (client_calls (world_of parts) client command found) parts.bag.before (record parts { clients = clients; bag = bag }) nothing_noted) (sym (client_there parts client old there)) (client_sent parts clients bag client new (begins old.client command) packet whole is opens.after opens.sent sent)
 
 -- a client's query
-pub client_asked : (parts : Parts) (clients : Vec ClientStanding Global) (bag : Bag) (client : ClientId) (server : ServerId) (pairs : List (EventId × EventId)) (old new : ClientStanding) (heard : Heard) (noting : Noted) → IsWhole parts → slice_get parts.clients.items (client.0 - 1) ≡ Some old → clients.items ≡ slice_set parts.clients.items (client.0 - 1) new → OpensQuery old server pairs heard new → IsSent parts.bag bag heard.packets → IsNotedOf client heard noting → Makes (client_asks (world_of parts) client server pairs (client_at (world_of parts) client)) (record parts { clients = clients; bag = bag }) noting
+pub client_asked : (parts : Parts) (clients : Vec ClientStanding Global) (bag : BagStanding) (client : ClientId) (server : ServerId) (pairs : List (EventId × EventId)) (old new : ClientStanding) (heard : Heard) (noting : Noted) → IsWhole parts → slice_get parts.clients.items (client.0 - 1) ≡ Some old → clients.items ≡ slice_set parts.clients.items (client.0 - 1) new → OpensQuery old server pairs heard new → IsSent parts.bag bag heard.packets → IsNotedOf client heard noting → Makes (client_asks (world_of parts) client server pairs (client_at (world_of parts) client)) parts.bag.before (record parts { clients = clients; bag = bag }) noting
 client_asked parts clients bag client server pairs old new heard noting whole there is opens sent notes =
-    subst (λ found. Makes (client_asks (world_of parts) client server pairs found) (record parts { clients = clients; bag = bag }) noting) (sym (client_there parts client old there)) (client_heeds parts clients bag client new (asks old.client server pairs) heard noting whole is opens.heeds sent notes)
+    subst (λ found. Makes (client_asks (world_of parts) client server pairs found) parts.bag.before (record parts { clients = clients; bag = bag }) noting) (sym (client_there parts client old there)) (client_heeds parts clients bag client new (asks old.client server pairs) heard noting whole is opens.heeds sent notes)
 
 -- a client's call once more
-pub client_retried : (parts : Parts) (bag : Bag) (client : ClientId) (server : ServerId) (node : ClientStanding) (packet : Packet) → IsWhole parts → slice_get parts.clients.items (client.0 - 1) ≡ Some node → retries node.client server ≡ packet ∷ [] → IsSent parts.bag bag (packet ∷ []) → Makes (client_retries (world_of parts) server (client_at (world_of parts) client)) (record parts { bag = bag }) nothing_noted
+pub client_retried : (parts : Parts) (bag : BagStanding) (client : ClientId) (server : ServerId) (node : ClientStanding) (packet : Packet) → IsWhole parts → slice_get parts.clients.items (client.0 - 1) ≡ Some node → retries node.client server ≡ packet ∷ [] → IsSent parts.bag bag (packet ∷ []) → Makes (client_retries (world_of parts) server (client_at (world_of parts) client)) parts.bag.before (record parts { bag = bag }) nothing_noted
 client_retried parts bag client server node packet whole there sends sent =
-    subst (λ found. Makes (client_retries (world_of parts) server found) (record parts { bag = bag }) nothing_noted) (sym (client_there parts client node there)) (record {
+    subst (λ found. Makes (client_retries (world_of parts) server found) parts.bag.before (record parts { bag = bag }) nothing_noted) (sym (client_there parts client node there)) (record {
       after = bag_after parts bag (packet ∷ []) sent ∙ ap (with_packets (world_of parts)) (sym sends);
       told = refl;
       parts = refl;
@@ -137,13 +143,13 @@ client_retried parts bag client server node packet whole there sends sent =
       servers = whole.servers;
       clients = whole.clients;
       journal = whole.journal;
-      counted = sent.counted;
+      since = sent.before;
     })
 
 -- a packet that a client heard
-pub client_heard : (parts : Parts) (clients : Vec ClientStanding Global) (bag : Bag) (client : ClientId) (old new : ClientStanding) (packet : Packet) (heard : Heard) (noting : Noted) → IsWhole parts → slice_get parts.clients.items (client.0 - 1) ≡ Some old → clients.items ≡ slice_set parts.clients.items (client.0 - 1) new → Accepts old packet heard new → IsSent parts.bag bag heard.packets → IsNotedOf client heard noting → Makes (arrives_at_client (world_of parts) client packet (client_at (world_of parts) client)) (record parts { clients = clients; bag = bag }) noting
+pub client_heard : (parts : Parts) (clients : Vec ClientStanding Global) (bag : BagStanding) (client : ClientId) (old new : ClientStanding) (packet : Packet) (heard : Heard) (noting : Noted) → IsWhole parts → slice_get parts.clients.items (client.0 - 1) ≡ Some old → clients.items ≡ slice_set parts.clients.items (client.0 - 1) new → Accepts old packet heard new → IsSent parts.bag bag heard.packets → IsNotedOf client heard noting → Makes (arrives_at_client (world_of parts) client packet (client_at (world_of parts) client)) parts.bag.before (record parts { clients = clients; bag = bag }) noting
 client_heard parts clients bag client old new packet heard noting whole there is accepts sent notes =
-    subst (λ found. Makes (arrives_at_client (world_of parts) client packet found) (record parts { clients = clients; bag = bag }) noting) (sym (client_there parts client old there)) (client_heeds parts clients bag client new (client_takes old.client packet) heard noting whole is accepts.heeds sent notes)
+    subst (λ found. Makes (arrives_at_client (world_of parts) client packet found) parts.bag.before (record parts { clients = clients; bag = bag }) noting) (sym (client_there parts client old there)) (client_heeds parts clients bag client new (client_takes old.client packet) heard noting whole is accepts.heeds sent notes)
 
 -- what follows of the parts where something was noted
 pub noted_so : (result : Result Noted NoMemory) (P : Type 0) (Q R : Noted → Type 0) → OnOk result P → IfOk result Q → ((noting : Noted) → P → Q noting → R noting) → IfOk result R
@@ -226,7 +232,7 @@ pub record IsSettled (parts made : Parts) (server : ServerId) (old new : ServerS
   pub journal : made.journal ≡ noted parts.journal old.server.done effects.committed
 
 -- a server's reaction: its node, the bag and the journal have changed
-pub server_reacted : (parts made : Parts) (server : ServerId) (old new : ServerStanding) (reaction : Reaction Server) (effects : Effects) → IsWhole parts → is_stopped (world_of parts) server ≡ false → IsSettled parts made server old new effects → IsWithinBounds (world_of parts) old.server reaction → ServerHeeds old reaction effects new → Makes (server_reacts (world_of parts) server reaction) made nothing_noted
+pub server_reacted : (parts made : Parts) (server : ServerId) (old new : ServerStanding) (reaction : Reaction Server) (effects : Effects) → IsWhole parts → is_stopped (world_of parts) server ≡ false → IsSettled parts made server old new effects → IsWithinBounds (world_of parts) old.server reaction → ServerHeeds old reaction effects new → Makes (server_reacts (world_of parts) server reaction) parts.bag.before made nothing_noted
 server_reacted parts made server old new reaction effects whole runs settled bounds heeds =
     let i = server.0 - 1 in
     let w = world_of parts in
@@ -240,7 +246,7 @@ server_reacted parts made server old new reaction effects whole runs settled bou
     let history : history_of made.journal ≡ longest w.history ss = ap history_of down ∙ history_of-done_of (longest w.history ss) in
     let nodes : map (λ (s : ServerStanding). s.server) made.servers.items ≡ ss = servers_after parts made.servers.items i new reaction.after settled.nodes node_after in
     let clients : map (λ (c : ClientStanding). c.client) made.clients.items ≡ w.clients = ap (λ (cs : Vec ClientStanding Global). map (λ (c : ClientStanding). c.client) cs.items) settled.callers in
-    let f : Manager → Vec Bool Global → List Server → List Client → List Entry → World = λ m marks ns cs h. record { manager = m; servers = ns; stopped = marks.items; clients = cs; bag = made.bag.packets; lost = made.bag.lost.items; delivered = made.bag.delivered.items; history = h } in
+    let f : Manager → Vec Bool Global → List Server → List Client → List Entry → World = λ m marks ns cs h. record { manager = m; servers = ns; stopped = marks.items; clients = cs; bag = made.bag.packets; lost = made.bag.lost; delivered = made.bag.delivered; history = h } in
     let its_nodes = map (λ (s : ServerStanding). s.server) made.servers.items in
     let its_clients = map (λ (c : ClientStanding). c.client) made.clients.items in
     let its_history = history_of made.journal in
@@ -249,7 +255,7 @@ server_reacted parts made server old new reaction effects whole runs settled bou
     let g : List Packet → List Bool → List Bool → World = λ ps ls ds. record w { servers = ss; history = longest w.history ss; bag = ps; lost = ls; delivered = ds } in
     let sent = settled.bag in
     let packets = effects.packets in
-    let bags : f parts.manager parts.stopped ss w.clients (longest w.history ss) ≡ with_packets (record w { servers = ss; history = longest w.history ss }) packets = ap (λ ps. g ps made.bag.lost.items made.bag.delivered.items) sent.packets_are ∙ ap (λ ls. g (w.bag ++ packets) ls made.bag.delivered.items) sent.lost ∙ ap (g (w.bag ++ packets) (w.lost ++ map (λ packet. false) packets)) sent.delivered in
+    let bags : f parts.manager parts.stopped ss w.clients (longest w.history ss) ≡ with_packets (record w { servers = ss; history = longest w.history ss }) packets = ap (λ ps. g ps made.bag.lost made.bag.delivered) sent.packets_are ∙ ap (λ ls. g (w.bag ++ packets) ls made.bag.delivered) sent.lost ∙ ap (g (w.bag ++ packets) (w.lost ++ map (λ packet. false) packets)) sent.delivered in
     record {
       after = changed ∙ bags ∙ ap (with_packets (record w { servers = ss; history = longest w.history ss })) heeds.sent;
       told = refl;
@@ -259,51 +265,102 @@ server_reacted parts made server old new reaction effects whole runs settled bou
       servers = servers_whole parts.servers.items made.servers.items i new settled.nodes (ap (λ (s : ServerStanding). s.failed) heeds.after) whole.servers;
       clients = subst (λ (cs : Vec ClientStanding Global). All (λ c. c.failed ≡ false) cs.items) (sym settled.callers) whole.clients;
       journal = down ∙ ap done_of (sym history);
-      counted = sent.counted;
+      since = sent.before;
     }
 
 -- a server takes a packet
-pub server_took : (parts made : Parts) (server : ServerId) (old new : ServerStanding) (packet : Packet) (effects : Effects) → IsWhole parts → is_stopped (world_of parts) server ≡ false → IsSettled parts made server old new effects → IsSoundPacket (views_of parts.manager) (world_of parts).servers packet → ServerHeeds old (server_takes old.server packet) effects new → Makes (arrives_at_server (world_of parts) server packet (server_at (world_of parts) server)) made nothing_noted
+pub server_took : (parts made : Parts) (server : ServerId) (old new : ServerStanding) (packet : Packet) (effects : Effects) → IsWhole parts → is_stopped (world_of parts) server ≡ false → IsSettled parts made server old new effects → IsSoundPacket (views_of parts.manager) (world_of parts).servers packet → ServerHeeds old (server_takes old.server packet) effects new → Makes (arrives_at_server (world_of parts) server packet (server_at (world_of parts) server)) parts.bag.before made nothing_noted
 server_took parts made server old new packet effects whole runs settled said heeds =
     let at = server_there parts server old settled.there in
     let bounds = takes_within (world_of parts) server packet old.server (seated (world_of parts) server old.server at runs whole.sound) said in
-    subst (λ found. Makes (arrives_at_server (world_of parts) server packet found) made nothing_noted) (sym at) (server_reacted parts made server old new (server_takes old.server packet) effects whole runs settled bounds heeds)
+    subst (λ found. Makes (arrives_at_server (world_of parts) server packet found) parts.bag.before made nothing_noted) (sym at) (server_reacted parts made server old new (server_takes old.server packet) effects whole runs settled bounds heeds)
 
 -- a server works
-pub server_worked : (parts made : Parts) (server : ServerId) (old new : ServerStanding) (effects : Effects) → IsWhole parts → turn_refusal (world_of parts) server (server_at (world_of parts) server) ≡ None → IsSettled parts made server old new effects → ServerHeeds old (server_works old.server) effects new → Makes (works (world_of parts) server (server_at (world_of parts) server)) made nothing_noted
+pub server_worked : (parts made : Parts) (server : ServerId) (old new : ServerStanding) (effects : Effects) → IsWhole parts → turn_refusal (world_of parts) server (server_at (world_of parts) server) ≡ None → IsSettled parts made server old new effects → ServerHeeds old (server_works old.server) effects new → Makes (works (world_of parts) server (server_at (world_of parts) server)) parts.bag.before made nothing_noted
 server_worked parts made server old new effects whole none settled heeds =
     let at = server_there parts server old settled.there in
     let runs = (may_turn (world_of parts) server (server_at (world_of parts) server) (if_full (world_of parts)) none).runs in
     let bounds = work_within (world_of parts) server old.server (seated (world_of parts) server old.server at runs whole.sound) in
-    subst (λ found. Makes (works (world_of parts) server found) made nothing_noted) (sym at) (server_reacted parts made server old new (server_works old.server) effects whole runs settled bounds heeds)
+    subst (λ found. Makes (works (world_of parts) server found) parts.bag.before made nothing_noted) (sym at) (server_reacted parts made server old new (server_works old.server) effects whole runs settled bounds heeds)
 
 -- a server ticks
-pub server_ticked : (parts made : Parts) (server : ServerId) (old new : ServerStanding) (effects : Effects) → IsWhole parts → turn_refusal (world_of parts) server (server_at (world_of parts) server) ≡ None → IsSettled parts made server old new effects → ServerHeeds old (server_ticks old.server) effects new → Makes (ticks_at (world_of parts) server (server_at (world_of parts) server)) made nothing_noted
+pub server_ticked : (parts made : Parts) (server : ServerId) (old new : ServerStanding) (effects : Effects) → IsWhole parts → turn_refusal (world_of parts) server (server_at (world_of parts) server) ≡ None → IsSettled parts made server old new effects → ServerHeeds old (server_ticks old.server) effects new → Makes (ticks_at (world_of parts) server (server_at (world_of parts) server)) parts.bag.before made nothing_noted
 server_ticked parts made server old new effects whole none settled heeds =
     let at = server_there parts server old settled.there in
     let runs = (may_turn (world_of parts) server (server_at (world_of parts) server) (if_full (world_of parts)) none).runs in
     let bounds = tick_within (world_of parts) server old.server (seated (world_of parts) server old.server at runs whole.sound) in
-    subst (λ found. Makes (ticks_at (world_of parts) server found) made nothing_noted) (sym at) (server_reacted parts made server old new (server_ticks old.server) effects whole runs settled bounds heeds)
+    subst (λ found. Makes (ticks_at (world_of parts) server found) parts.bag.before made nothing_noted) (sym at) (server_reacted parts made server old new (server_ticks old.server) effects whole runs settled bounds heeds)
 
--- the world of parts in whose bag a packet was marked as delivered
-pub delivered_after : (parts : Parts) (bag : Bag) (k : ℕ) → bag.packets ≡ parts.bag.packets → bag.lost ≡ parts.bag.lost → bag.delivered.items ≡ slice_set parts.bag.delivered.items (k - 1) true → world_of (record parts { bag = bag }) ≡ record (world_of parts) { delivered = marked (world_of parts).delivered k }
-delivered_after parts bag k packets lost delivered =
-    let f : List Packet → Vec Bool Global → List Bool → World = λ ps ls ds. record (world_of parts) { bag = ps; lost = ls.items; delivered = ds } in
-    ap (λ ps. f ps bag.lost bag.delivered.items) packets ∙ ap (λ ls. f parts.bag.packets ls bag.delivered.items) lost ∙ ap (f parts.bag.packets parts.bag.lost) delivered
+-- what a bag in which a packet was marked as delivered is
+abbrev pub delivered_in : BagStanding → ℕ → BagStanding
+delivered_in bag k = record bag { delivered = marked bag.delivered k }
 
--- such parts are whole
-pub delivered_whole : (parts : Parts) (bag : Bag) (k : ℕ) → IsWhole parts → bag.packets ≡ parts.bag.packets → bag.lost ≡ parts.bag.lost → bag.delivered.items ≡ slice_set parts.bag.delivered.items (k - 1) true → bag.bytes ≡ parts.bag.bytes → IsWhole (record parts { bag = bag })
-delivered_whole parts bag k whole packets lost delivered bytes =
-    record {
+-- parts in whose bag a packet was marked as delivered are whole
+pub delivered_whole : (parts : Parts) (bag : BagStanding) (k : ℕ) → IsWhole parts → bag ≡ delivered_in parts.bag k → IsWhole (record parts { bag = bag })
+delivered_whole parts bag k whole is =
+    let its : IsWhole (record parts { bag = delivered_in parts.bag k }) = record {
       servers = whole.servers;
       clients = whole.clients;
       journal = whole.journal;
-      counted = still_counted bag packets bytes whole.counted;
-      sound = subst IsSound (sym (delivered_after parts bag k packets lost delivered)) (delivered_sound (world_of parts) k whole.sound);
-    }
-  where
-    still_counted : (bag : Bag) → bag.packets ≡ parts.bag.packets → bag.bytes ≡ parts.bag.bytes → IsCounted parts.bag → IsCounted bag
-    still_counted bag packets bytes counted = rw (packets, bytes) counted
+      sound = delivered_sound (world_of parts) k whole.sound;
+    } in
+    subst (λ b. IsWhole (record parts { bag = b })) (sym is) its
+
+-- a delivery is an arrival in them
+pub delivers_as : (parts : Parts) (bag : BagStanding) (k : ℕ) (packet : Packet) (to : Node) → packet_at (world_of parts) k ≡ Some packet → packet.to ≡ to → bag ≡ delivered_in parts.bag k → delivers (world_of parts) k (packet_at (world_of parts) k) ≡ arrives (world_of (record parts { bag = bag })) to packet
+delivers_as parts bag k packet to at goes is =
+    ap (delivers (world_of parts) k) at ∙ ap (λ t. arrives (world_of (record parts { bag = delivered_in parts.bag k })) t packet) goes ∙ ap (λ b. arrives (world_of (record parts { bag = b })) to packet) (sym is)
+
+-- so it makes what the arrival makes
+pub delivers_so : (parts made : Parts) (bag : BagStanding) (k : ℕ) (packet : Packet) (to : Node) (result : Result Noted NoMemory) → packet_at (world_of parts) k ≡ Some packet → packet.to ≡ to → bag ≡ delivered_in parts.bag k → IfOk result (Makes (arrives (world_of (record parts { bag = bag })) to packet) bag.before made) → IfOk result (Makes (delivers (world_of parts) k (packet_at (world_of parts) k)) parts.bag.before made)
+delivers_so parts made bag k packet to result at goes is arrived =
+    let since : bag.before ≡ parts.bag.before = ap (λ (b : BagStanding). b.before) is in
+    subst (λ n. IfOk result (Makes (delivers (world_of parts) k (packet_at (world_of parts) k)) n made)) since (subst (λ outcome. IfOk result (Makes outcome bag.before made)) (sym (delivers_as parts bag k packet to at goes is)) arrived)
+
+-- and its packets fit
+pub delivers_fit : (parts : Parts) (bag : BagStanding) (k : ℕ) (packet : Packet) (to : Node) → packet_at (world_of parts) k ≡ Some packet → packet.to ≡ to → bag ≡ delivered_in parts.bag k → All IsPacket (delivers (world_of parts) k (packet_at (world_of parts) k)).after.bag → All IsPacket (arrives (world_of (record parts { bag = bag })) to packet).after.bag
+delivers_fit parts bag k packet to at goes is fit =
+    subst (λ (outcome : Outcome). All IsPacket outcome.after.bag) (delivers_as parts bag k packet to at goes is) fit
+
+-- what arrives is sound
+pub delivers_sound : (parts : Parts) (bag : BagStanding) (k : ℕ) (packet : Packet) → IsWhole parts → packet_at (world_of parts) k ≡ Some packet → IsSoundPacket (views_of parts.manager) (world_of (record parts { bag = bag })).servers packet
+delivers_sound parts bag k packet whole at =
+    at_index (IsSoundPacket (views_of parts.manager) (world_of parts).servers) parts.bag.packets (k - 1) packet whole.sound.packets at
+
+-- and its addressee runs
+pub delivers_to : (parts : Parts) (bag : BagStanding) (k : ℕ) (packet : Packet) (server : ServerId) → packet_at (world_of parts) k ≡ Some packet → packet.to ≡ AtServer server → deliver_refusal (world_of parts) k (packet_at (world_of parts) k) ≡ None → is_stopped (world_of (record parts { bag = bag })) server ≡ false
+delivers_to parts bag k packet server at goes none =
+    let may = may_deliver (world_of parts) k packet (ap (deliver_refusal (world_of parts) k) (sym at) ∙ none) in
+    ap (has_stopped (world_of parts)) (sym goes) ∙ may.runs
+
+-- a packet of the world is in the bag
+packet_within : (bag : BagStanding) (k : ℕ) (packet : Packet) → 1 ≤ k → slice_get bag.packets (k - 1) ≡ Some packet → IsNumbered bag k
+packet_within bag k packet first is = record { first = first; last = omega (arith, slice_get_within bag.packets (k - 1) packet is, first) }
+
+-- one that may be delivered is
+pub delivered_there : (parts : Parts) (k : ℕ) (found : Option Packet) → 1 ≤ k → packet_at (world_of parts) k ≡ found → deliver_refusal (world_of parts) k found ≡ None → IsNumbered parts.bag k
+delivered_there parts k None first is none = absurd (none-some NoSuchPacket (sym none))
+delivered_there parts k (Some packet) first is none = packet_within parts.bag k packet first is
+
+-- and so is one that may be lost
+pub lost_there : (parts : Parts) (k : ℕ) (found : Option Packet) → 1 ≤ k → packet_at (world_of parts) k ≡ found → lose_refusal (world_of parts) k found ≡ None → IsNumbered parts.bag k
+lost_there parts k None first is none = absurd (none-some NoSuchPacket (sym none))
+lost_there parts k (Some packet) first is none = packet_within parts.bag k packet first is
+
+-- parts in whose bag a packet was marked as lost
+pub lost_makes : (parts : Parts) (bag : BagStanding) (k : ℕ) → IsWhole parts → bag ≡ record parts.bag { lost = marked parts.bag.lost k } → Makes (loses (world_of parts) k) parts.bag.before (record parts { bag = bag }) nothing_noted
+lost_makes parts bag k whole is =
+    subst (λ b. Makes (loses (world_of parts) k) parts.bag.before (record parts { bag = b }) nothing_noted) (sym is) (record {
+      after = refl;
+      told = refl;
+      parts = refl;
+      shown = refl;
+      refused = refl;
+      servers = whole.servers;
+      clients = whole.clients;
+      journal = whole.journal;
+      since = refl;
+    })
 
 -- a client of the world is in the parts
 pub client_within : (parts : Parts) (client : ClientId) (node : Client) → client_at (world_of parts) client ≡ Some node → client.0 - 1 < length parts.clients.items
@@ -325,13 +382,29 @@ pub retrier_there : (parts : Parts) (client : ClientId) (server : ServerId) (fou
 retrier_there parts client server None other is none = absurd (none-some NoSuchClient (sym none))
 retrier_there parts client server (Some node) other is none = client_within parts client node is
 
--- after a step of whole parts the parts are whole
-pub whole_after : (old new : Parts) (event : Event) (noting : Noted) → IsWhole old → Makes (step (world_of old) event) new noting → IsWhole new
-whole_after old new event noting whole made =
+-- parts that go on to a step are as they were
+pub begun_rest : (parts : Parts) (bag : BagStanding) → bag ≡ record parts.bag { before = length parts.bag.packets } → IsAtRest parts → IsAtRest (record parts { bag = bag })
+begun_rest parts bag is rest =
+    subst (λ b. IsAtRest (record parts { bag = b })) (sym is) (record {
+      whole = record { servers = rest.whole.servers; clients = rest.whole.clients; journal = rest.whole.journal; sound = rest.whole.sound };
+      spoken = rest.spoken;
+    })
+
+-- a step leaves parts at rest
+pub rest_after : (old new : Parts) (event : Event) (before : ℕ) (noting : Noted) → IsAtRest old → HaveBegun (2 ^ 63 - 1) (world_of old).clients → IsEvent event → Makes (step (world_of old) event) before new noting → IsAtRest new
+rest_after old new event before noting rest few fits made =
     record {
-      servers = made.servers;
-      clients = made.clients;
-      journal = made.journal;
-      counted = made.counted;
-      sound = subst IsSound (sym made.after) (worlds_sound.later (world_of old) event whole.sound);
+      whole = record {
+        servers = made.servers;
+        clients = made.clients;
+        journal = made.journal;
+        sound = subst IsSound (sym made.after) (worlds_sound.later (world_of old) event rest.whole.sound);
+      };
+      spoken = subst IsSpoken (sym made.after) (worlds_spoken.later (world_of old) event rest.whole.sound few fits rest.spoken);
     }
+
+-- the packets of a step that is not refused have spellings
+pub act_fits : (parts : Parts) (event : Event) → IsAtRest parts → HaveBegun (2 ^ 63 - 1) (world_of parts).clients → IsEvent event → refusal_of (world_of parts) event ≡ None → All IsPacket (act (world_of parts) event).after.bag
+act_fits parts event rest few fits none =
+    let w = world_of parts in
+    subst (λ (outcome : Outcome). All IsPacket outcome.after.bag) (ap (λ why. unless w why (act w event)) none) (worlds_spoken.later w event rest.whole.sound few fits rest.spoken).packets

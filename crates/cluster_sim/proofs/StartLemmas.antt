@@ -18,7 +18,11 @@ use Rattle.kr_world.proofs.SoundLemmas.{worlds_sound}
 use Rattle.cluster_sim.specs.declared.parts.Parts.{Parts}
 use Rattle.kr_order.specs.declared.history.Entry.{Entry}
 use Rattle.kr_order.specs.declared.message.Packet.{Packet}
-use Rattle.cluster_sim.specs.Parts.{history_of, world_of, IsCounted, IsWhole}
+use Rattle.cluster_sim.specs.BagStanding.{BagStanding}
+use Rattle.cluster_sim.specs.Parts.{history_of, world_of, IsWhole, IsAtRest}
+use Rattle.wire_fit.specs.Spoken.{IsSpoken}
+use Rattle.wire_fit.proofs.SpokenLemmas.{worlds_spoken}
+use Rattle.script_lang.specs.Script.{IsSize}
 
 numbers_to-next : (n : ℕ) → numbers_to (n + 1) ≡ numbers_to n ++ (n + 1) ∷ []
 numbers_to-next n = let same : n + 1 ≡ suc n = omega arith in ap numbers_to same
@@ -44,17 +48,15 @@ pub record IsStart (servers clients : ℕ) (parts : Parts) : Type 0 where
   pub marks : parts.stopped.items ≡ map (λ n. false) (numbers_to servers)
   pub nodes : parts.servers.items ≡ new_servers servers
   pub callers : parts.clients.items ≡ new_callers servers clients
-  pub packets : parts.bag.packets ≡ []
-  pub lost : parts.bag.lost.items ≡ []
-  pub delivered : parts.bag.delivered.items ≡ []
+  pub bag : parts.bag ≡ record { packets = []; lost = []; delivered = []; before = 0 }
   pub journal : parts.journal ≡ []
 
 pub started : (servers clients : ℕ) (parts : Parts) → IsStart servers clients parts → world_of parts ≡ first_world servers clients
 started servers clients parts start =
     let manager = start.manager in
-    let packets = start.packets in
-    let lost = start.lost in
-    let delivered = start.delivered in
+    let packets : parts.bag.packets ≡ [] = ap (λ (b : BagStanding). b.packets) start.bag in
+    let lost : parts.bag.lost ≡ [] = ap (λ (b : BagStanding). b.lost) start.bag in
+    let delivered : parts.bag.delivered ≡ [] = ap (λ (b : BagStanding). b.delivered) start.bag in
     let journal : history_of parts.journal ≡ [] = ap history_of start.journal in
     let ss : map (λ (s : ServerStanding). s.server) parts.servers.items ≡ map (λ m. founder (first_view servers) (record { 0 = m })) (numbers_to servers) = ap (map (λ (s : ServerStanding). s.server)) start.nodes ∙ map_map (λ (s : ServerStanding). s.server) (λ m. record { server = founder (first_view servers) (record { 0 = m }); failed = false }) (numbers_to servers) in
     let cs : map (λ (c : ClientStanding). c.client) parts.clients.items ≡ map (λ m. new_client (first_view servers) (record { 0 = m })) (numbers_to clients) = ap (map (λ (c : ClientStanding). c.client)) start.callers ∙ map_map (λ (c : ClientStanding). c.client) (λ m. record { client = new_client (first_view servers) (record { 0 = m }); failed = false }) (numbers_to clients) in
@@ -63,12 +65,18 @@ started servers clients parts start =
     let g : List Packet → List Bool → List Bool → List Entry → World = λ ps ls ds h. record w { bag = ps; lost = ls; delivered = ds; history = h } in
     ap (λ m. f m (world_of parts).stopped (world_of parts).servers (world_of parts).clients) manager ∙ ap (λ marks. f w.manager marks (world_of parts).servers (world_of parts).clients) start.marks ∙ ap (λ ns. f w.manager w.stopped ns (world_of parts).clients) ss ∙ ap (f w.manager w.stopped w.servers) cs ∙ ap (λ ps. g ps (world_of parts).lost (world_of parts).delivered (world_of parts).history) packets ∙ ap (λ ls. g [] ls (world_of parts).delivered (world_of parts).history) lost ∙ ap (λ ds. g [] [] ds (world_of parts).history) delivered ∙ ap (g [] [] []) journal
 
-pub started_whole : (servers clients : ℕ) (parts : Parts) → 1 ≤ servers → servers ≤ 8 → IsCounted parts.bag → IsStart servers clients parts → IsWhole parts
-started_whole servers clients parts some few counted start =
+started_whole : (servers clients : ℕ) (parts : Parts) → 1 ≤ servers → servers ≤ 8 → IsStart servers clients parts → IsWhole parts
+started_whole servers clients parts some few start =
     record {
       servers = subst (All (λ s. s.failed ≡ false)) (sym start.nodes) (All-map (λ (s : ServerStanding). s.failed ≡ false) (λ m. record { server = founder (first_view servers) (record { 0 = m }); failed = false }) (numbers_to servers) (all_of (λ m. false ≡ false) (λ m. refl) (numbers_to servers)));
       clients = subst (All (λ c. c.failed ≡ false)) (sym start.callers) (All-map (λ (c : ClientStanding). c.failed ≡ false) (λ m. record { client = new_client (first_view servers) (record { 0 = m }); failed = false }) (numbers_to clients) (all_of (λ m. false ≡ false) (λ m. refl) (numbers_to clients)));
       journal = start.journal ∙ ap (λ j. done_of (history_of j)) (sym start.journal);
-      counted = counted;
       sound = subst IsSound (sym (started servers clients parts start)) (worlds_sound.first servers clients some (omega arith));
+    }
+
+pub started_rest : (servers clients : ℕ) (parts : Parts) → IsSize servers clients → IsStart servers clients parts → IsAtRest parts
+started_rest servers clients parts size start =
+    record {
+      whole = started_whole servers clients parts size.servers_fit.low size.servers_fit.high start;
+      spoken = subst IsSpoken (sym (started servers clients parts start)) (worlds_spoken.first servers clients size);
     }

@@ -19,7 +19,7 @@ use Rattle.chain_server.specs.ServerStanding.{ServerStanding}
 use Rattle.client_session.specs.ClientStanding.{ClientStanding}
 use Rattle.kr_world.specs.World.{World, client_at, server_at, is_stopped}
 use Rattle.kr_world.specs.declared.refusal.Refusal.TheVariants.{NoSuchClient, NoSuchServer}
-use Rattle.kr_world.specs.Step.{quiet, have_stopped, notice_refusal, join_refusal, learn_refusal, manager_tells, joined_at_manager, notices, joins, learns_view}
+use Rattle.kr_world.specs.Step.{Outcome, quiet, have_stopped, notice_refusal, join_refusal, learn_refusal, manager_tells, joined_at_manager, notices, joins, learns_view}
 use Rattle.kr_world.specs.Sound.{IsSound, IsServed, HasJoined}
 use Rattle.kr_world.proofs.SeatLemmas.{mark_of}
 use Rattle.kr_world.proofs.ManagerLemmas.{may_notice, removed_sound, with_newcomer, with_newcomer_sound, may_join, may_promote_so, with_member_sound}
@@ -28,8 +28,9 @@ use Rattle.cluster_sim.specs.declared.parts.Noted.{Noted}
 use Rattle.cluster_sim.specs.declared.parts.Parts.{Parts}
 use Rattle.kr_order.specs.declared.history.DoneEntry.{DoneEntry}
 use Rattle.kr_order.specs.Done.{done_of}
-use Rattle.cluster_sim.specs.declared.parts.Bag.{Bag}
-use Rattle.cluster_sim.specs.Parts.{history_of, world_of, IsCounted, IsWhole, Makes}
+use Rattle.cluster_sim.specs.BagStanding.{BagStanding}
+use Rattle.kr_wire.specs.Valid.{IsPacket}
+use Rattle.cluster_sim.specs.Parts.{history_of, world_of, IsWhole, Makes}
 use Rattle.cluster_sim.proofs.PartsLemmas.{nothing_noted, client_there, server_there, clients_after, clients_whole, client_within}
 
 and_assoc : (a b c : Bool) → (a && (b && c)) ≡ ((a && b) && c)
@@ -65,13 +66,13 @@ nothing_sent world =
 pub client_learnt : (parts : Parts) (clients : Vec ClientStanding Global) (client : ClientId) (old new : ClientStanding) → IsWhole parts
     → slice_get parts.clients.items (client.0 - 1) ≡ Some old → clients.items ≡ slice_set parts.clients.items (client.0 - 1) new
     → new ≡ record { client = learns old.client parts.manager.current; failed = false }
-    → Makes (learns_view (world_of parts) client (client_at (world_of parts) client)) (record parts { clients = clients }) nothing_noted
+    → Makes (learns_view (world_of parts) client (client_at (world_of parts) client)) parts.bag.before (record parts { clients = clients }) nothing_noted
 client_learnt parts clients client old new whole there is learnt =
     let w = world_of parts in
     let after = learns old.client parts.manager.current in
     let nodes = clients_after parts clients (client.0 - 1) new after is (ap (λ (s : ClientStanding). s.client) learnt) in
     let now : world_of (record parts { clients = clients }) ≡ record w { clients = slice_set w.clients (client.0 - 1) after } = ap (λ cs. record w { clients = cs }) nodes in
-    subst (λ found. Makes (learns_view w client found) (record parts { clients = clients }) nothing_noted) (sym (client_there parts client old there)) (record {
+    subst (λ found. Makes (learns_view w client found) parts.bag.before (record parts { clients = clients }) nothing_noted) (sym (client_there parts client old there)) (record {
       after = now ∙ nothing_sent (record w { clients = slice_set w.clients (client.0 - 1) after });
       told = refl;
       parts = refl;
@@ -80,7 +81,7 @@ client_learnt parts clients client old new whole there is learnt =
       servers = whole.servers;
       clients = clients_whole parts.clients.items clients.items (client.0 - 1) new is (ap (λ (s : ClientStanding). s.failed) learnt) whole.clients;
       journal = whole.journal;
-      counted = whole.counted;
+      since = refl;
     })
 
 -- a client that may learn is there
@@ -135,23 +136,28 @@ removed_whole parts id whole noticed =
       servers = whole.servers;
       clients = whole.clients;
       journal = whole.journal;
-      counted = whole.counted;
       sound = removed_sound (world_of parts) id whole.sound noticed.stopped noticed.named;
     }
 
--- what the manager tells then is what a notice does
-pub noticed_makes : (parts made : Parts) (server : ServerId) (k : ℕ) (node : ServerStanding) (manager : Manager) (id : ServerId) (result : Result Noted NoMemory) → k ≡ server.0 - 1
+-- what a notice does is that the manager tells then
+pub noticed_as : (parts : Parts) (server : ServerId) (k : ℕ) (node : ServerStanding) (manager : Manager) (id : ServerId) → k ≡ server.0 - 1
     → node ≡ get_or parts.servers.items k node → notice_refusal (world_of parts) server (server_at (world_of parts) server) ≡ None
     → id ≡ node.server.id → manager ≡ removes parts.manager id
-    → IfOk result (Makes (manager_tells (world_of (record parts { manager = manager })) manager) made)
-    → IfOk result (Makes (notices (world_of parts) (server_at (world_of parts) server)) made)
-noticed_makes parts made server k node manager id result same is none its removed tells =
+    → notices (world_of parts) (server_at (world_of parts) server) ≡ manager_tells (world_of (record parts { manager = manager })) manager
+noticed_as parts server k node manager id same is none its removed =
     let w = world_of parts in
     let within = noticed_there parts server (server_at w server) refl none in
     let at = server_there parts server node (read_at parts.servers.items k (server.0 - 1) node same within is) in
     let m : manager ≡ removes parts.manager node.server.id = removed ∙ ap (removes parts.manager) its in
-    let told : IfOk result (Makes (manager_tells w (removes parts.manager node.server.id)) made) = subst (λ m. IfOk result (Makes (manager_tells w m) made)) m tells in
-    subst (λ found. IfOk result (Makes (notices w found) made)) (sym at) told
+    ap (notices w) at ∙ ap (manager_tells w) (sym m)
+
+-- so it makes what that makes
+pub tells_so : (before : ℕ) (made : Parts) (outcome told : Outcome) (result : Result Noted NoMemory) → outcome ≡ told → IfOk result (Makes told before made) → IfOk result (Makes outcome before made)
+tells_so before made outcome told result same tells = subst (λ o. IfOk result (Makes o before made)) (sym same) tells
+
+-- and its packets fit
+pub tells_fit : (outcome told : Outcome) → outcome ≡ told → All IsPacket outcome.after.bag → All IsPacket told.after.bag
+tells_fit outcome told same fit = subst (λ (o : Outcome). All IsPacket o.after.bag) same fit
 
 -- what the parts are once a new server is among them, and the manager has made the view with it
 pub record HasAdded (parts made : Parts) : Type 0 where
@@ -164,8 +170,8 @@ pub record HasAdded (parts made : Parts) : Type 0 where
 
 added_world : (parts made : Parts) → HasAdded parts made → world_of made ≡ with_newcomer (world_of parts)
 added_world parts made added =
-    let f : Manager → List Server → List Bool → Vec ClientStanding Global → Bag → List DoneEntry → World =
-    λ m ns marks cs bag journal. record { manager = m; servers = ns; stopped = marks; clients = map (λ (c : ClientStanding). c.client) cs.items; bag = bag.packets; lost = bag.lost.items; delivered = bag.delivered.items; history = history_of journal } in
+    let f : Manager → List Server → List Bool → Vec ClientStanding Global → BagStanding → List DoneEntry → World =
+    λ m ns marks cs bag journal. record { manager = m; servers = ns; stopped = marks; clients = map (λ (c : ClientStanding). c.client) cs.items; bag = bag.packets; lost = bag.lost; delivered = bag.delivered; history = history_of journal } in
     let nodes : map (λ (s : ServerStanding). s.server) made.servers.items ≡ (world_of parts).servers ++ newcomer (next_server parts.manager) ∷ [] =
     ap (map (λ (s : ServerStanding). s.server)) added.nodes ∙ map-append (λ (s : ServerStanding). s.server) parts.servers.items (record { server = newcomer (next_server parts.manager); failed = false } ∷ []) in
     let its = map (λ (s : ServerStanding). s.server) made.servers.items in
@@ -186,16 +192,13 @@ added_whole parts made whole none added =
       servers = subst (All (λ s. s.failed ≡ false)) (sym added.nodes) (All-push (λ s. s.failed ≡ false) parts.servers.items new whole.servers refl);
       clients = subst (λ (cs : Vec ClientStanding Global). All (λ c. c.failed ≡ false) cs.items) (sym added.callers) whole.clients;
       journal = subst (λ j. j ≡ done_of (history_of j)) (sym added.journal) whole.journal;
-      counted = subst IsCounted (sym added.bag) whole.counted;
       sound = subst IsSound (sym (added_world parts made added)) (with_newcomer_sound (world_of parts) whole.sound may.none may.few);
     }
 
--- what the manager tells then is what a join does
-pub added_makes : (parts added made : Parts) (result : Result Noted NoMemory) → HasAdded parts added
-    → IfOk result (Makes (manager_tells (world_of added) added.manager) made) → IfOk result (Makes (joins (world_of parts)) made)
-added_makes parts added made result has tells =
-    let told : IfOk result (Makes (manager_tells (with_newcomer (world_of parts)) added.manager) made) = subst (λ w. IfOk result (Makes (manager_tells w added.manager) made)) (added_world parts added has) tells in
-    subst (λ m. IfOk result (Makes (manager_tells (with_newcomer (world_of parts)) m) made)) has.manager told
+-- what a join does is that the manager tells then
+pub added_as : (parts added : Parts) → HasAdded parts added → joins (world_of parts) ≡ manager_tells (world_of added) added.manager
+added_as parts added has =
+    ap (manager_tells (with_newcomer (world_of parts))) (sym has.manager) ∙ ap (λ w. manager_tells w added.manager) (sym (added_world parts added has))
 
 -- a view was made exactly where the manager may promote
 pub may_of_some : (current : View) (from joiner : ServerId) (view : Option View) (made : View) → view ≡ Some made
@@ -214,24 +217,20 @@ member_whole parts from joiner whole said may =
       servers = whole.servers;
       clients = whole.clients;
       journal = whole.journal;
-      counted = whole.counted;
       sound = with_member_sound (world_of parts) whole.sound from joiner said (may_promote_so parts.manager.current from joiner may);
     }
 
--- what the manager tells then is what a joiner's promotion does
-pub member_makes : (parts made : Parts) (from joiner : ServerId) (manager : Manager) (result : Result Noted NoMemory)
-    → may_promote parts.manager.current from joiner ≡ true → manager ≡ promotes parts.manager joiner
-    → IfOk result (Makes (manager_tells (world_of (record parts { manager = manager })) manager) made)
-    → IfOk result (Makes (joined_at_manager (world_of parts) from joiner) made)
-member_makes parts made from joiner manager result may is tells =
-    let told : IfOk result (Makes (manager_tells (world_of parts) (promotes parts.manager joiner)) made) = subst (λ m. IfOk result (Makes (manager_tells (world_of parts) m) made)) is tells in
-    subst (λ test. IfOk result (Makes (cond test (manager_tells (world_of parts) (promotes parts.manager joiner)) (quiet (world_of parts))) made)) (sym may) told
+-- what a joiner's promotion does is that the manager tells then
+pub member_as : (parts : Parts) (from joiner : ServerId) (manager : Manager) → may_promote parts.manager.current from joiner ≡ true → manager ≡ promotes parts.manager joiner
+    → joined_at_manager (world_of parts) from joiner ≡ manager_tells (world_of (record parts { manager = manager })) manager
+member_as parts from joiner manager may is =
+    ap (λ test. cond test (manager_tells (world_of parts) (promotes parts.manager joiner)) (quiet (world_of parts))) may ∙ ap (manager_tells (world_of parts)) (sym is)
 
 -- and where it is none
 pub none_makes : (parts : Parts) (from joiner : ServerId) → IsWhole parts → may_promote parts.manager.current from joiner ≡ false
-    → Makes (joined_at_manager (world_of parts) from joiner) parts nothing_noted
+    → Makes (joined_at_manager (world_of parts) from joiner) parts.bag.before parts nothing_noted
 none_makes parts from joiner whole may =
-    subst (λ test. Makes (cond test (manager_tells (world_of parts) (promotes parts.manager joiner)) (quiet (world_of parts))) parts nothing_noted) (sym may) (record {
+    subst (λ test. Makes (cond test (manager_tells (world_of parts) (promotes parts.manager joiner)) (quiet (world_of parts))) parts.bag.before parts nothing_noted) (sym may) (record {
       after = refl;
       told = refl;
       parts = refl;
@@ -240,5 +239,5 @@ none_makes parts from joiner whole may =
       servers = whole.servers;
       clients = whole.clients;
       journal = whole.journal;
-      counted = whole.counted;
+      since = refl;
     })

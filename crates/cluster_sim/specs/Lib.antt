@@ -1,3 +1,4 @@
+pub mod BagStanding
 pub mod Parts
 pub mod ClusterStanding
 pub mod Steps

@@ -2,14 +2,16 @@
 
 ghost use Rattle.std.specs.Prelude.{◌≡◌, ◌^◌, ◌-◌, false, OnOk, IfOk};
 ghost use Rattle.kr_order.specs.Done.{done_of};
+ghost use Rattle.script_lang.specs.Event.{IsEvent};
 ghost use Rattle.script_lang.specs.Script.{IsSize};
 ghost use Rattle.kr_world.specs.World.{first_world};
 ghost use Rattle.kr_world.specs.Sound.{HaveBegun};
 ghost use Rattle.kr_world.specs.Lines.{end_lines};
 ghost use Rattle.cluster_sim.specs.Steps.{Steps, StepsOnto};
 
+use crate::bag::Bag;
 use crate::lines::{Lines, end_lines, put_step};
-use crate::parts::{Bag, Parts};
+use crate::parts::Parts;
 use crate::start::{callers, founders, running};
 use crate::step::step;
 use chain_manager::Manager;
@@ -33,11 +35,11 @@ impl Model for Cluster {
 
     ghost Value = { ClusterStanding };
 
-    ghost use Rattle.cluster_sim.specs.Parts.{world_of, IsWhole};
+    ghost use Rattle.cluster_sim.specs.Parts.{world_of, IsAtRest};
 
     ghost view = { λ c. record { world = world_of c.parts; failed = c.failed } };
 
-    ghost invariant = { λ c. c.failed ≡ false → IsWhole c.parts };
+    ghost invariant = { λ c. c.failed ≡ false → IsAtRest c.parts };
 }
 
 impl Cluster {
@@ -74,7 +76,8 @@ impl Cluster {
         event: &Event,
         lines: &mut Vec<u8>,
     ) -> Result<(), NoMemory>
-        requires { HaveBegun (2 ^ 63 - 1) self.old.world.clients }
+        requires event { IsEvent event.now }
+        requires few { HaveBegun (2 ^ 63 - 1) self.old.world.clients }
         ensures { StepsOnto self.old event.now lines.old.items result self.new lines.new.items }
     {
         if self.failed {
@@ -82,9 +85,9 @@ impl Cluster {
         }
         self.failed = true;
         let entries = self.parts.journal.len();
-        let sent = self.parts.bag.packets.len();
+        self.parts.bag.begin();
         let noted = step(rt, self.alloc, &mut self.parts, event)?;
-        put_step(lines, entries, sent, &self.parts, &noted)?;
+        put_step(lines, entries, &self.parts, &noted)?;
         self.failed = false;
         Ok(())
     }
@@ -92,7 +95,8 @@ impl Cluster {
     /// Does one step, and answers its lines. A step that is refused changes nothing and answers a line that
     /// says why. After `NoMemory` the cluster has failed. Each client has to have begun fewer than 2^63 queries before.
     pub fn step<R: Threads + Sync>(&mut self, rt: &R, event: &Event) -> Result<Lines, NoMemory>
-        requires { HaveBegun (2 ^ 63 - 1) self.old.world.clients }
+        requires event { IsEvent event.now }
+        requires few { HaveBegun (2 ^ 63 - 1) self.old.world.clients }
         ensures { Steps self.old event.now result self.new }
     {
         let mut lines = Vec::new(self.alloc);

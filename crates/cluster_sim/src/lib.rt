@@ -5,6 +5,7 @@
 //! answer `NoMemory` then does.
 #![tactic(auto)]
 
+mod bag;
 mod cluster;
 mod lines;
 mod parts;

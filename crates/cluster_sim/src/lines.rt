@@ -260,10 +260,10 @@ fn put_message(out: &mut Vec<u8>, message: &Message) -> Result<(), NoMemory>
 }
 
 // Packet k was sent.
-fn put_packet(out: &mut Vec<u8>, k: usize, packet: &Packet) -> Result<(), NoMemory>
+fn put_packet(out: &mut Vec<u8>, k: u64, packet: &Packet) -> Result<(), NoMemory>
     ensures { OnOk result (out.new.items ≡ out.old.items ++ packet_line k packet.now) }
 {
-    put_counted(out, b"packet ", k as u64)?;
+    put_counted(out, b"packet ", k)?;
     put(out, b" ")?;
     put_node(out, packet.from)?;
     put(out, b" ")?;
@@ -274,12 +274,12 @@ fn put_packet(out: &mut Vec<u8>, k: usize, packet: &Packet) -> Result<(), NoMemo
 }
 
 // The packets that were sent after the first `sent` ones.
-fn put_packets(out: &mut Vec<u8>, sent: usize, packets: &[Packet]) -> Result<(), NoMemory>
+fn put_packets(out: &mut Vec<u8>, sent: u64, packets: &[Packet]) -> Result<(), NoMemory>
     requires { sent + length packets.now < 2 ^ 64 }
     ensures { OnOk result (out.new.items ≡ out.old.items ++ packet_lines sent packets.now) }
 {
     for (i, packet) in packets.iter().enumerate() {
-        put_packet(out, sent + i + 1, packet)?;
+        put_packet(out, sent + i as u64 + 1, packet)?;
     }
     Ok(())
 }
@@ -294,23 +294,21 @@ fn put_journal(out: &mut Vec<u8>, journal: &[DoneEntry]) -> Result<(), NoMemory>
     Ok(())
 }
 
-/// Puts the lines of a step behind what is there, given the lengths of the history and of the bag before it.
+/// Puts the lines of a step behind what is there, given the length of the history before it.
 pub fn put_step(
     out: &mut Vec<u8>,
     entries: usize,
-    sent: usize,
     parts: &Parts,
     noted: &Noted,
 ) -> Result<(), NoMemory>
-    ensures { OnOk result (out.new.items ≡ out.old.items ++ lines_of entries sent parts.now noted.now) }
+    ensures { OnOk result (out.new.items ≡ out.old.items ++ lines_of entries parts.now noted.now) }
 {
     put_grown(out, entries, parts.journal.len())?;
     put_told(out, &noted.told)?;
     put_parts(out, &noted.parts)?;
     put_shown(out, noted.shown)?;
     put_refused(out, noted.refused)?;
-    let packets = parts.bag.packets.as_slice();
-    put_packets(out, sent, packets.split_at(sent.min(packets.len())).1)
+    put_packets(out, parts.bag.before(), parts.bag.fresh())
 }
 
 /// The lines of the history, at the end.

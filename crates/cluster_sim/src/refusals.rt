@@ -1,10 +1,12 @@
 //! Why a step is refused.
 
-ghost use Rattle.std.specs.Prelude.{◌≡◌, ◌-◌, slice_index_or, false};
+ghost use Rattle.std.specs.Prelude.{◌≡◌, ◌-◌, ◌≤◌};
 ghost use Rattle.kr_protocol.specs.Manager.{members_but};
-ghost use Rattle.kr_world.specs.World.{client_at, server_at, packet_at, is_marked, is_stopped, has_stopped};
+ghost use Rattle.kr_world.specs.World.{client_at, server_at, packet_at, is_stopped, has_stopped};
 ghost use Rattle.kr_world.specs.Step.{if_full, refusal_of, call_refusal, server_refusal, query_refusal, retry_refusal, turn_refusal, tick_refusal, deliver_refusal, lose_refusal, have_stopped, is_last_running, stop_refusal, notice_refusal, join_refusal, show_refusal, learn_refusal};
-ghost use Rattle.cluster_sim.specs.Parts.{world_of, IsCounted};
+ghost use Rattle.cluster_sim.specs.Parts.{world_of, arrival_refusal, loss_refusal};
+ghost use Rattle.cluster_sim.specs.BagStanding.{IsNumbered};
+ghost use Rattle.script_lang.specs.Event.{IsEvent};
 
 use crate::parts::Parts;
 use chain_manager::MOST_SERVERS;
@@ -21,7 +23,6 @@ pub fn index_of(number: u64) -> usize
 
 // A step that may send is refused where the bag is full.
 fn if_full(parts: &Parts) -> Option<Refusal>
-    requires { IsCounted parts.now.bag }
     ensures { result ≡ if_full (world_of parts.now) }
 {
     if parts.bag.is_full() {
@@ -33,7 +34,6 @@ fn if_full(parts: &Parts) -> Option<Refusal>
 
 // Why a call of the client is refused.
 fn call_refusal(parts: &Parts, client: ClientId) -> Option<Refusal>
-    requires { IsCounted parts.now.bag }
     ensures { result ≡ call_refusal (world_of parts.now) (client_at (world_of parts.now) client) }
 {
     let Some(node) = parts.clients.get(index_of(u64::from(client.0))) else {
@@ -72,7 +72,6 @@ fn server_refusal(parts: &Parts, server: ServerId, rest: Option<Refusal>) -> Opt
 
 // Why a query of the client at the server is refused.
 fn query_refusal(parts: &Parts, client: ClientId, server: ServerId) -> Option<Refusal>
-    requires { IsCounted parts.now.bag }
     ensures { result ≡ query_refusal (world_of parts.now) server (client_at (world_of parts.now) client) (server_at (world_of parts.now) server) }
 {
     let Some(node) = parts.clients.get(index_of(u64::from(client.0))) else {
@@ -88,7 +87,6 @@ fn query_refusal(parts: &Parts, client: ClientId, server: ServerId) -> Option<Re
 
 // Why the client's open call is not tried again at the server.
 fn retry_refusal(parts: &Parts, client: ClientId, server: ServerId) -> Option<Refusal>
-    requires { IsCounted parts.now.bag }
     ensures { result ≡ retry_refusal (world_of parts.now) server (client_at (world_of parts.now) client) (server_at (world_of parts.now) server) }
 {
     let Some(node) = parts.clients.get(index_of(u64::from(client.0))) else {
@@ -104,7 +102,6 @@ fn retry_refusal(parts: &Parts, client: ClientId, server: ServerId) -> Option<Re
 
 // Why the server's turn, to work or to tick, is refused.
 fn turn_refusal(parts: &Parts, server: ServerId) -> Option<Refusal>
-    requires { IsCounted parts.now.bag }
     ensures { result ≡ turn_refusal (world_of parts.now) server (server_at (world_of parts.now) server) }
 {
     server_refusal(parts, server, if_full(parts))
@@ -112,7 +109,6 @@ fn turn_refusal(parts: &Parts, server: ServerId) -> Option<Refusal>
 
 // Why a tick is refused.
 fn tick_refusal(parts: &Parts, who: Option<ServerId>) -> Option<Refusal>
-    requires { IsCounted parts.now.bag }
     ensures { result ≡ tick_refusal (world_of parts.now) who }
 {
     match who {
@@ -159,7 +155,6 @@ fn stop_refusal(parts: &Parts, server: ServerId) -> Option<Refusal>
 
 // Why the manager does not hear of the server's stop.
 fn notice_refusal(parts: &Parts, server: ServerId) -> Option<Refusal>
-    requires { IsCounted parts.now.bag }
     ensures { result ≡ notice_refusal (world_of parts.now) server (server_at (world_of parts.now) server) }
 {
     let Some(node) = parts.servers.get(index_of(u64::from(server.0))) else {
@@ -185,45 +180,52 @@ fn has_stopped(parts: &Parts, node: Node) -> bool
     }
 }
 
-// Whether packet k was lost.
-fn is_lost(parts: &Parts, k: u64) -> bool
-    ensures { result ≡ is_marked (world_of parts.now).lost k }
+// Why a delivery of packet k, which goes to this node, is refused.
+fn arrival_refusal(parts: &Parts, k: u64, to: Node) -> Option<Refusal>
+    requires { IsNumbered parts.now.bag k }
+    ensures { result ≡ arrival_refusal (world_of parts.now) k to }
 {
-    match parts.bag.lost.get(index_of(k)) {
-        None => false,
-        Some(mark) => *mark,
-    }
-}
-
-// Why a delivery of packet k is refused.
-fn deliver_refusal(parts: &Parts, k: u64) -> Option<Refusal>
-    requires { IsCounted parts.now.bag }
-    ensures { result ≡ deliver_refusal (world_of parts.now) k (packet_at (world_of parts.now) k) }
-{
-    let Some(packet) = parts.bag.packets.get(index_of(k)) else {
-        return Some(Refusal::NoSuchPacket);
-    };
-    if has_stopped(parts, packet.to) {
+    if has_stopped(parts, to) {
         return Some(Refusal::Stopped);
     }
-    if is_lost(parts, k) {
+    if parts.bag.is_lost(k) {
         Some(Refusal::Lost)
     } else {
         if_full(parts)
     }
 }
 
-// Why packet k is not lost.
-fn lose_refusal(parts: &Parts, k: u64) -> Option<Refusal>
-    ensures { result ≡ lose_refusal (world_of parts.now) k (packet_at (world_of parts.now) k) }
+// Why a delivery of packet k is refused.
+fn deliver_refusal(parts: &Parts, k: u64) -> Option<Refusal>
+    requires { 1 ≤ k }
+    ensures { result ≡ deliver_refusal (world_of parts.now) k (packet_at (world_of parts.now) k) }
 {
-    if parts.bag.packets.get(index_of(k)).is_none() {
-        return Some(Refusal::NoSuchPacket);
+    match parts.bag.to(k) {
+        None => Some(Refusal::NoSuchPacket),
+        Some(to) => arrival_refusal(parts, k, to),
     }
-    if is_lost(parts, k) {
+}
+
+// Why packet k, which is there, is not lost.
+fn loss_refusal(parts: &Parts, k: u64) -> Option<Refusal>
+    requires { IsNumbered parts.now.bag k }
+    ensures { result ≡ loss_refusal (world_of parts.now) k }
+{
+    if parts.bag.is_lost(k) {
         Some(Refusal::Lost)
     } else {
         None
+    }
+}
+
+// Why packet k is not lost.
+fn lose_refusal(parts: &Parts, k: u64) -> Option<Refusal>
+    requires { 1 ≤ k }
+    ensures { result ≡ lose_refusal (world_of parts.now) k (packet_at (world_of parts.now) k) }
+{
+    match parts.bag.to(k) {
+        None => Some(Refusal::NoSuchPacket),
+        Some(_) => loss_refusal(parts, k),
     }
 }
 
@@ -236,7 +238,6 @@ fn show_refusal(parts: &Parts, server: ServerId) -> Option<Refusal>
 
 // Why no server joins.
 fn join_refusal(parts: &Parts) -> Option<Refusal>
-    requires { IsCounted parts.now.bag }
     ensures { result ≡ join_refusal (world_of parts.now) }
 {
     if parts.manager.current().joiner.is_some() {
@@ -261,7 +262,7 @@ fn learn_refusal(parts: &Parts, client: ClientId) -> Option<Refusal>
 
 /// Why the event is refused, if it is.
 pub fn refusal(parts: &Parts, event: &Event) -> Option<Refusal>
-    requires { IsCounted parts.now.bag }
+    requires { IsEvent event.now }
     ensures { result ≡ refusal_of (world_of parts.now) event.now }
 {
     match event {

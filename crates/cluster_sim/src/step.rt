@@ -5,10 +5,12 @@ mod packets;
 mod turns;
 mod views;
 
-ghost use Rattle.std.specs.Prelude.{◌≡◌, ◌^◌, ◌-◌, IfOk, None};
+ghost use Rattle.std.specs.Prelude.{◌≡◌, ◌^◌, ◌-◌, IfOk, None, All};
 ghost use Rattle.kr_world.specs.Sound.{HaveBegun};
 ghost use Rattle.kr_world.specs.Step.{refusal_of, act, step as world_step};
-ghost use Rattle.cluster_sim.specs.Parts.{world_of, IsWhole, Makes};
+ghost use Rattle.script_lang.specs.Event.{IsEvent};
+ghost use Rattle.kr_wire.specs.Valid.{IsPacket};
+ghost use Rattle.cluster_sim.specs.Parts.{world_of, IsWhole, IsAtRest, Makes};
 
 use crate::parts::{Noted, Parts};
 use crate::refusals::refusal;
@@ -26,8 +28,10 @@ fn act<R: Threads + Sync>(
 ) -> Result<Noted, NoMemory>
     requires whole { IsWhole parts.old }
     requires free { refusal_of (world_of parts.old) event.now ≡ None }
+    requires event { IsEvent event.now }
     requires few { HaveBegun (2 ^ 63 - 1) (world_of parts.old).clients }
-    ensures { IfOk result (Makes (act (world_of parts.old) event.now) parts.new) }
+    requires fit { All IsPacket (act (world_of parts.old) event.now).after.bag }
+    ensures { IfOk result (Makes (act (world_of parts.old) event.now) parts.old.bag.before parts.new) }
 {
     match event {
         Event::Call { client, command } => calls::call(alloc, parts, *client, command),
@@ -56,9 +60,10 @@ pub fn step<R: Threads + Sync>(
     parts: &mut Parts,
     event: &Event,
 ) -> Result<Noted, NoMemory>
-    requires whole { IsWhole parts.old }
+    requires rest { IsAtRest parts.old }
+    requires event { IsEvent event.now }
     requires few { HaveBegun (2 ^ 63 - 1) (world_of parts.old).clients }
-    ensures { IfOk result (Makes (world_step (world_of parts.old) event.now) parts.new) }
+    ensures { IfOk result (Makes (world_step (world_of parts.old) event.now) parts.old.bag.before parts.new) }
 {
     match refusal(parts, event) {
         Some(why) => Ok(Noted {

@@ -1,6 +1,7 @@
 //! A script's run, written step by step.
 
-ghost use Rattle.std.specs.Prelude.{◌≡◌, ◌<◌, ◌^◌, ◌-◌, ◌++◌, [], length};
+ghost use Rattle.std.specs.Prelude.{◌≡◌, ◌<◌, ◌^◌, ◌-◌, ◌++◌, [], length, All};
+ghost use Rattle.script_lang.specs.Event.{IsEvent};
 ghost use Rattle.script_lang.specs.Script.{IsScript};
 ghost use Rattle.kr_world.specs.Lines.{end_lines};
 ghost use Rattle.kr_world.specs.Run.{text_of};
@@ -95,6 +96,7 @@ fn run_events<R: Threads + Sync, K: Sink>(
     gathered: &mut Vec<u8>,
     sink: &mut K,
 ) -> Result<(), Stop>
+    requires each { All IsEvent events.now }
     requires none { gathered.old.items ≡ [] }
     requires first { HaveBegun 0 cluster.old.world.clients }
     requires few { length events.now < 2 ^ 63 }
@@ -117,7 +119,8 @@ fn turn<R: Threads + Sync, K: Sink>(
     gathered: &mut Vec<u8>,
     sink: &mut K,
 ) -> Result<(), Stop>
-    requires { HaveBegun (2 ^ 63 - 1) cluster.old.world.clients }
+    requires event { IsEvent event.now }
+    requires few { HaveBegun (2 ^ 63 - 1) cluster.old.world.clients }
     ensures { Turns cluster.old event.now gathered.old.items result cluster.new gathered.new.items (K.held sink.old) (K.held sink.new) (K.faults sink.old) (K.faults sink.new) }
 {
     cluster.step_onto(rt, event, gathered)?;

@@ -1,12 +1,15 @@
 //! What clients do: commands, queries, and both tried again.
 
-ghost use Rattle.std.specs.Prelude.{◌≡◌, ◌^◌, ◌-◌, IfOk, OnOk, None};
+ghost use Rattle.std.specs.Prelude.{◌≡◌, ◌^◌, ◌-◌, IfOk, OnOk, None, All};
 ghost use Rattle.kr_world.specs.World.{client_at, server_at};
 ghost use Rattle.kr_world.specs.Step.{call_refusal, query_refusal, retry_refusal, told_to, client_calls, client_asks, client_retries};
-ghost use Rattle.cluster_sim.specs.Parts.{world_of, IsWhole, IsCounted, IsSent, IsNotedOf, told_in, Makes};
+ghost use Rattle.cluster_sim.specs.Parts.{world_of, IsWhole, IsNotedOf, told_in, Makes};
+ghost use Rattle.cluster_sim.specs.BagStanding.{IsSent};
+ghost use Rattle.kr_wire.specs.Valid.{IsPacket};
 ghost use Rattle.kr_world.specs.Sound.{HaveBegun};
 
-use crate::parts::{Bag, Noted, Parts, PartsTelling, Telling};
+use crate::bag::Bag;
+use crate::parts::{Noted, Parts, PartsTelling, Telling};
 use crate::refusals::index_of;
 use client_session::{CallStop, Heard, RetryStop};
 use kr_order::{Asked, ClientId, Command, Copied, NoMemory, ServerId, ToldReply};
@@ -21,7 +24,8 @@ pub fn call(
 ) -> Result<Noted, NoMemory>
     requires whole { IsWhole parts.old }
     requires free { call_refusal (world_of parts.old) (client_at (world_of parts.old) client) ≡ None }
-    ensures { IfOk result (Makes (client_calls (world_of parts.old) client command.now (client_at (world_of parts.old) client)) parts.new) }
+    requires fit { All IsPacket (client_calls (world_of parts.old) client command.now (client_at (world_of parts.old) client)).after.bag }
+    ensures { IfOk result (Makes (client_calls (world_of parts.old) client command.now (client_at (world_of parts.old) client)) parts.old.bag.before parts.new) }
 {
     let i = index_of(u64::from(client.0));
     let command = command.copy(alloc)?;
@@ -48,7 +52,7 @@ fn telling(client: ClientId, told: Option<ToldReply>) -> Option<Telling>
 
 /// What the client has heard: its packets go into the bag, and what it is told is noted.
 pub fn hear(bag: &mut Bag, client: ClientId, heard: Heard) -> Result<Noted, NoMemory>
-    requires { IsCounted bag.old }
+    requires { All IsPacket heard.packets }
     ensures sent { OnOk result (IsSent bag.old bag.new heard.packets) }
     ensures noted { IfOk result (λ noted. IsNotedOf client heard noted) }
 {
@@ -76,7 +80,8 @@ pub fn ask(
     requires whole { IsWhole parts.old }
     requires free { query_refusal (world_of parts.old) server (client_at (world_of parts.old) client) (server_at (world_of parts.old) server) ≡ None }
     requires few { HaveBegun (2 ^ 63 - 1) (world_of parts.old).clients }
-    ensures { IfOk result (Makes (client_asks (world_of parts.old) client server pairs.now (client_at (world_of parts.old) client)) parts.new) }
+    requires fit { All IsPacket (client_asks (world_of parts.old) client server pairs.now (client_at (world_of parts.old) client)).after.bag }
+    ensures { IfOk result (Makes (client_asks (world_of parts.old) client server pairs.now (client_at (world_of parts.old) client)) parts.old.bag.before parts.new) }
 {
     let i = index_of(u64::from(client.0));
     let node = &mut parts.clients[i];
@@ -91,7 +96,8 @@ pub fn ask(
 pub fn retry(parts: &mut Parts, client: ClientId, server: ServerId) -> Result<Noted, NoMemory>
     requires whole { IsWhole parts.old }
     requires free { retry_refusal (world_of parts.old) server (client_at (world_of parts.old) client) (server_at (world_of parts.old) server) ≡ None }
-    ensures { IfOk result (Makes (client_retries (world_of parts.old) server (client_at (world_of parts.old) client)) parts.new) }
+    requires fit { All IsPacket (client_retries (world_of parts.old) server (client_at (world_of parts.old) client)).after.bag }
+    ensures { IfOk result (Makes (client_retries (world_of parts.old) server (client_at (world_of parts.old) client)) parts.old.bag.before parts.new) }
 {
     let i = index_of(u64::from(client.0));
     match parts.clients[i].retry(server) {

@@ -1,9 +1,11 @@
 //! What servers do by themselves: they tick and work, and are shown.
 
-ghost use Rattle.std.specs.Prelude.{◌≡◌, None, IfOk, OnOk};
+ghost use Rattle.std.specs.Prelude.{◌≡◌, None, IfOk, OnOk, All};
 ghost use Rattle.kr_world.specs.World.{server_at};
 ghost use Rattle.kr_world.specs.Step.{turn_refusal, tick_refusal, works, ticks, ticks_at, shows};
-ghost use Rattle.cluster_sim.specs.Parts.{world_of, noted, IsWhole, IsCounted, IsSent, Makes};
+ghost use Rattle.cluster_sim.specs.Parts.{world_of, noted, IsWhole, Makes};
+ghost use Rattle.cluster_sim.specs.BagStanding.{IsSent};
+ghost use Rattle.kr_wire.specs.Valid.{IsPacket};
 
 use crate::parts::{Noted, Parts, note};
 use crate::refusals::index_of;
@@ -22,7 +24,7 @@ pub fn settle(
     before: u64,
     effects: Effects,
 ) -> Result<(), NoMemory>
-    requires { IsCounted parts.old.bag }
+    requires { All IsPacket effects.packets }
     ensures manager { parts.new.manager ≡ parts.old.manager }
     ensures servers { parts.new.servers ≡ parts.old.servers }
     ensures stopped { parts.new.stopped ≡ parts.old.stopped }
@@ -44,7 +46,8 @@ pub fn work<R: Threads + Sync>(
 ) -> Result<Noted, NoMemory>
     requires whole { IsWhole parts.old }
     requires free { turn_refusal (world_of parts.old) server (server_at (world_of parts.old) server) ≡ None }
-    ensures { IfOk result (Makes (works (world_of parts.old) server (server_at (world_of parts.old) server)) parts.new) }
+    requires fit { All IsPacket (works (world_of parts.old) server (server_at (world_of parts.old) server)).after.bag }
+    ensures { IfOk result (Makes (works (world_of parts.old) server (server_at (world_of parts.old) server)) parts.old.bag.before parts.new) }
 {
     let i = index_of(u64::from(server.0));
     if i >= parts.servers.len() {
@@ -61,7 +64,8 @@ pub fn work<R: Threads + Sync>(
 fn tick_at(alloc: Global, parts: &mut Parts, server: ServerId) -> Result<Noted, NoMemory>
     requires whole { IsWhole parts.old }
     requires free { turn_refusal (world_of parts.old) server (server_at (world_of parts.old) server) ≡ None }
-    ensures { IfOk result (Makes (ticks_at (world_of parts.old) server (server_at (world_of parts.old) server)) parts.new) }
+    requires fit { All IsPacket (ticks_at (world_of parts.old) server (server_at (world_of parts.old) server)).after.bag }
+    ensures { IfOk result (Makes (ticks_at (world_of parts.old) server (server_at (world_of parts.old) server)) parts.old.bag.before parts.new) }
 {
     let i = index_of(u64::from(server.0));
     if i >= parts.servers.len() {
@@ -78,7 +82,8 @@ fn tick_at(alloc: Global, parts: &mut Parts, server: ServerId) -> Result<Noted, 
 pub fn tick(alloc: Global, parts: &mut Parts, who: Option<ServerId>) -> Result<Noted, NoMemory>
     requires whole { IsWhole parts.old }
     requires free { tick_refusal (world_of parts.old) who ≡ None }
-    ensures { IfOk result (Makes (ticks (world_of parts.old) who) parts.new) }
+    requires fit { All IsPacket (ticks (world_of parts.old) who).after.bag }
+    ensures { IfOk result (Makes (ticks (world_of parts.old) who) parts.old.bag.before parts.new) }
 {
     match who {
         None => tell(parts),
@@ -89,7 +94,7 @@ pub fn tick(alloc: Global, parts: &mut Parts, who: Option<ServerId>) -> Result<N
 /// What the server has is shown.
 pub fn show(parts: &mut Parts, server: ServerId) -> Result<Noted, NoMemory>
     requires whole { IsWhole parts.old }
-    ensures { IfOk result (Makes (shows (world_of parts.old) server (server_at (world_of parts.old) server)) parts.new) }
+    ensures { IfOk result (Makes (shows (world_of parts.old) server (server_at (world_of parts.old) server)) parts.old.bag.before parts.new) }
 {
     let Some(node) = parts.servers.get(index_of(u64::from(server.0))) else {
         return Ok(Noted::nothing());

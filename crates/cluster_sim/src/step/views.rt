@@ -1,12 +1,13 @@
 //! Servers stop, the manager makes views, and clients learn them.
 
-ghost use Rattle.std.specs.Prelude.{◌≡◌, ◌≢◌, ◌<◌, [], ◌∷◌, ◌++◌, true, false, None, IfOk, OnOk};
+ghost use Rattle.std.specs.Prelude.{◌≡◌, ◌≢◌, ◌<◌, [], ◌∷◌, ◌++◌, true, false, None, IfOk, OnOk, All};
 ghost use Rattle.kr_protocol.specs.Manager.{names, next_server, removes, adds, views_of};
 ghost use Rattle.kr_protocol.specs.Server.{newcomer};
 ghost use Rattle.kr_world.specs.World.{client_at, server_at};
 ghost use Rattle.kr_world.specs.Step.{stop_refusal, notice_refusal, join_refusal, learn_refusal, manager_tells, joined_at_manager, stops, notices, joins, learns_view};
 ghost use Rattle.kr_world.specs.Sound.{HasJoined};
 ghost use Rattle.cluster_sim.specs.Parts.{world_of, IsWhole, Makes};
+ghost use Rattle.kr_wire.specs.Valid.{IsPacket};
 
 use crate::parts::{Noted, Parts};
 use crate::refusals::index_of;
@@ -18,8 +19,9 @@ use std::alloc::Global;
 
 /// The manager tells all whom its current view names of it.
 pub fn tell(parts: &mut Parts) -> Result<Noted, NoMemory>
-    requires { IsWhole parts.old }
-    ensures { IfOk result (Makes (manager_tells (world_of parts.old) parts.old.manager) parts.new) }
+    requires whole { IsWhole parts.old }
+    requires fit { All IsPacket (manager_tells (world_of parts.old) parts.old.manager).after.bag }
+    ensures { IfOk result (Makes (manager_tells (world_of parts.old) parts.old.manager) parts.old.bag.before parts.new) }
 {
     let packets = parts.manager.announce()?;
     parts.bag.send_all(packets)?;
@@ -30,7 +32,7 @@ pub fn tell(parts: &mut Parts) -> Result<Noted, NoMemory>
 pub fn stop(parts: &mut Parts, server: ServerId) -> Result<Noted, NoMemory>
     requires whole { IsWhole parts.old }
     requires free { stop_refusal (world_of parts.old) server (server_at (world_of parts.old) server) ≡ None }
-    ensures { IfOk result (Makes (stops (world_of parts.old) server) parts.new) }
+    ensures { IfOk result (Makes (stops (world_of parts.old) server) parts.old.bag.before parts.new) }
 {
     let i = index_of(u64::from(server.0));
     parts.stopped[i] = true;
@@ -54,7 +56,8 @@ fn remove(manager: &mut Manager, id: ServerId) -> Result<(), NoMemory>
 pub fn notice(parts: &mut Parts, server: ServerId) -> Result<Noted, NoMemory>
     requires whole { IsWhole parts.old }
     requires free { notice_refusal (world_of parts.old) server (server_at (world_of parts.old) server) ≡ None }
-    ensures { IfOk result (Makes (notices (world_of parts.old) (server_at (world_of parts.old) server)) parts.new) }
+    requires fit { All IsPacket (notices (world_of parts.old) (server_at (world_of parts.old) server)).after.bag }
+    ensures { IfOk result (Makes (notices (world_of parts.old) (server_at (world_of parts.old) server)) parts.old.bag.before parts.new) }
 {
     let id = parts.servers[index_of(u64::from(server.0))].id();
     remove(&mut parts.manager, id)?;
@@ -95,7 +98,8 @@ fn welcome(manager: &mut Manager) -> Result<ServerId, NoMemory>
 pub fn join(alloc: Global, parts: &mut Parts) -> Result<Noted, NoMemory>
     requires whole { IsWhole parts.old }
     requires free { join_refusal (world_of parts.old) ≡ None }
-    ensures { IfOk result (Makes (joins (world_of parts.old)) parts.new) }
+    requires fit { All IsPacket (joins (world_of parts.old)).after.bag }
+    ensures { IfOk result (Makes (joins (world_of parts.old)) parts.old.bag.before parts.new) }
 {
     let id = welcome(&mut parts.manager)?;
     add(alloc, parts, id)?;
@@ -107,7 +111,8 @@ pub fn join(alloc: Global, parts: &mut Parts) -> Result<Noted, NoMemory>
 pub fn promote(parts: &mut Parts, from: ServerId, joiner: ServerId) -> Result<Noted, NoMemory>
     requires whole { IsWhole parts.old }
     requires said { HasJoined (views_of parts.old.manager) (world_of parts.old).servers from joiner }
-    ensures { IfOk result (Makes (joined_at_manager (world_of parts.old) from joiner) parts.new) }
+    requires fit { All IsPacket (joined_at_manager (world_of parts.old) from joiner).after.bag }
+    ensures { IfOk result (Makes (joined_at_manager (world_of parts.old) from joiner) parts.old.bag.before parts.new) }
 {
     match parts.manager.joined(from, joiner)? {
         None => Ok(Noted::nothing()),
@@ -119,7 +124,7 @@ pub fn promote(parts: &mut Parts, from: ServerId, joiner: ServerId) -> Result<No
 pub fn learn(parts: &mut Parts, client: ClientId) -> Result<Noted, NoMemory>
     requires whole { IsWhole parts.old }
     requires free { learn_refusal (client_at (world_of parts.old) client) ≡ None }
-    ensures { IfOk result (Makes (learns_view (world_of parts.old) client (client_at (world_of parts.old) client)) parts.new) }
+    ensures { IfOk result (Makes (learns_view (world_of parts.old) client (client_at (world_of parts.old) client)) parts.old.bag.before parts.new) }
 {
     let i = index_of(u64::from(client.0));
     parts.clients[i].learn(parts.manager.current())?;

@@ -1,4 +1,6 @@
 use Rattle.std.proofs.Common.{◌++◌, sym, subst, refl}
+use Rattle.std.specs.Prelude.{All}
+use Rattle.script_lang.specs.Event.{IsEvent}
 use Rattle.kr_world.specs.Lines.{end_lines}
 use Rattle.kr_world.specs.Run.{text_of}
 use Rattle.kr_world.specs.Sound.{HaveBegun}
@@ -24,3 +26,6 @@ returns-in-Ok-run_events g c =
 pub run_events-requires-clause-first : goal.run_events-requires-clause-first
 run_events-requires-clause-first g c = λ lifetimes bounds.
     subst (λ (cluster : ClusterStanding). HaveBegun 0 cluster.world.clients) (sym c.in-Ok.ensures) (none_begun c.args.script.now.servers c.args.script.now.clients)
+
+pub run_events-requires-clause-each : goal.run_events-requires-clause-each
+run_events-requires-clause-each g c = λ lifetimes bounds. subst (All IsEvent) (sym c.as_slice.ensures) c.requires.fit.each

@@ -6,7 +6,7 @@ use Rattle.kr_protocol.specs.Client.{new_client}
 use Rattle.kr_world.specs.World.{World}
 use Rattle.cluster_sim.specs.declared.parts.Parts.{Parts}
 use Rattle.cluster_sim.specs.ClusterStanding.{ClusterStanding}
-use Rattle.cluster_sim.proofs.StartLemmas.{IsStart, started, started_whole}
+use Rattle.cluster_sim.proofs.StartLemmas.{IsStart, started, started_rest}
 use Rattle.cluster_sim.proofs.cluster.Cluster.new.Goals as goal
 
 -- the parts that a cluster begins with
@@ -20,15 +20,13 @@ start_of c = record {
   marks = c.in_ok-stopped.ensures;
   nodes = c.in_ok-nodes.ensures ∙ ap (λ v. map (λ n. record { server = founder v (record { 0 = n }); failed = false }) (numbers_to c.args.servers)) (c.current.ensures ∙ ap (λ (m : Manager). m.current) c.in_ok-manager.ensures);
   callers = c.in_ok-callers.ensures ∙ ap (λ v. map (λ n. record { client = new_client v (record { 0 = n }); failed = false }) (numbers_to c.args.clients)) (c.current-2.ensures ∙ ap (λ (m : Manager). m.current) c.in_ok-manager.ensures);
-  packets = c.new-2.ensures.packets;
-  lost = c.new-2.ensures.lost;
-  delivered = c.new-2.ensures.delivered;
+  bag = c.new-2.ensures;
   journal = c.new-3.ensures;
 }
 
 pub invariant_of-result : goal.invariant_of-result
 unfolding parts_of
-invariant_of-result c = λ _. started_whole c.args.servers c.args.clients (parts_of c) c.requires.servers_fit.low c.requires.servers_fit.high c.new-2.ensures.counted (start_of c)
+invariant_of-result c = λ _. started_rest c.args.servers c.args.clients (parts_of c) c.requires (start_of c)
 
 pub returns : goal.returns
 unfolding parts_of

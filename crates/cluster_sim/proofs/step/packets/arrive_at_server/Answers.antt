@@ -2,19 +2,28 @@ use Rattle.std.proofs.Common.{◌≡◌, ◌-◌, ◌<◌, length, get_or, refl,
 use Rattle.std.specs.Prelude.{slice_set}
 use Rattle.std.specs.declared.vec.Vec.{Vec}
 use Rattle.std.specs.declared.alloc.Global.{Global}
-use Rattle.std.proofs.lemmas.Option.{slice_get_read, same_Some}
+use Rattle.std.proofs.lemmas.Option.{slice_get_read}
 use Rattle.chain_server.specs.ServerStanding.{ServerStanding}
-use Rattle.kr_protocol.specs.Manager.{views_of}
 use Rattle.kr_world.specs.World.{server_at}
 use Rattle.kr_world.specs.Step.{arrives_at_server}
-use Rattle.kr_world.specs.Sound.{IsSoundPacket}
-use Rattle.kr_world.proofs.StepLemmas.{at_index}
 use Rattle.cluster_sim.specs.Parts.{world_of, noted, Makes}
 use Rattle.cluster_sim.proofs.PartsLemmas.{IsSettled, nothing_noted, server_took}
+use Rattle.cluster_sim.proofs.FitLemmas.{taken_fit}
 use Rattle.cluster_sim.proofs.step.packets.arrive_at_server.Goals as goal
 
+pub settle-requires : goal.settle-requires
+settle-requires c =
+    let parts = c.args.parts.now in
+    let nodes = parts.servers.items in
+    let i = c.args.server.0 - 1 in
+    let node = c.index_mut-node.result.now in
+    let at : c.index_of-i.result ≡ i = omega (arith, c.index_of-i.ensures, c.from.ensures) in
+    let within : i < length nodes = omega (arith, at) in
+    let there = slice_get_read nodes (length nodes) i node refl within (c.index_mut-node.ensures.value ∙ ap (λ n. get_or nodes n node) at) in
+    taken_fit parts c.args.server node c.take.new.self c.args.packet.now c.in_ok-effects.effects there c.in_ok-effects.ensures c.requires.fit
+
 pub returns : goal.returns
-returns c = λ packet stands.
+returns c =
     let parts = c.args.parts.now in
     let made = c.settle.new.parts in
     let nodes = c.args.parts.now.servers.items in
@@ -35,8 +44,6 @@ returns c = λ packet stands.
       bag = on.bag;
       journal = on.journal ∙ ap (λ n. noted parts.journal n effects.committed) c.done-before.ensures;
     } in
-    let same : c.in-Some.packet.now ≡ packet = same_Some c.in-Some.packet.now packet (c.in-Some.ensures ∙ stands) in
-    let said = at_index (IsSoundPacket (views_of parts.manager) (world_of parts).servers) parts.bag.packets c.args.k c.in-Some.packet.now c.requires.whole.sound.packets (sym c.in-Some.ensures) in
-    let took = server_took parts made c.args.server node new c.in-Some.packet.now effects c.requires.whole c.requires.runs settled said c.in_ok-effects.ensures in
-    let its = subst (λ p. Makes (arrives_at_server (world_of parts) c.args.server p (server_at (world_of parts) c.args.server)) made nothing_noted) same took in
-    subst (λ noting. Makes (arrives_at_server (world_of parts) c.args.server packet (server_at (world_of parts) c.args.server)) made noting) (sym c.nothing-2.ensures) its
+    let packet = c.args.packet.now in
+    let took = server_took parts made c.args.server node new packet effects c.requires.whole c.requires.runs settled c.requires.said c.in_ok-effects.ensures in
+    subst (λ noting. Makes (arrives_at_server (world_of parts) c.args.server packet (server_at (world_of parts) c.args.server)) parts.bag.before made noting) (sym c.nothing-2.ensures) took

@@ -1,32 +1,62 @@
-use Rattle.std.proofs.Common.{◌<◌, length, sym, ap, ◌∙◌, subst}
-use Rattle.std.specs.Prelude.{true, slice_set}
-use Rattle.std.proofs.lemmas.Option.{slice_get_within}
-use Rattle.cluster_sim.proofs.PartsLemmas.{delivered_whole}
+use Rattle.std.proofs.Common.{refl}
+use Rattle.kr_order.specs.declared.message.Node.TheVariants.{Manager, Client, Server}
+use Rattle.kr_world.specs.World.{packet_at}
+use Rattle.cluster_sim.specs.Parts.{world_of}
+use Rattle.cluster_sim.proofs.PartsLemmas.{delivered_whole, delivered_there, delivers_so, delivers_fit, delivers_sound, delivers_to}
 use Rattle.cluster_sim.proofs.step.packets.deliver.Goals as goal
+
+pub packet-requires : goal.packet-requires
+packet-requires c =
+    delivered_there c.args.parts.now c.args.k (packet_at (world_of c.args.parts.now) c.args.k) c.requires.first refl c.requires.free
+
+pub mark_delivered-requires : goal.mark_delivered-requires
+mark_delivered-requires c =
+    delivered_there c.args.parts.now c.args.k (packet_at (world_of c.args.parts.now) c.args.k) c.requires.first refl c.requires.free
 
 pub arrive_at_manager-requires-clause-whole : goal.arrive_at_manager-requires-clause-whole
 arrive_at_manager-requires-clause-whole c =
-    let on = c.mark_delivered.ensures in
-    delivered_whole c.args.parts.now c.mark_delivered.new.bag c.args.k c.requires.whole on.packets on.lost (on.delivered ∙ ap (λ n. slice_set c.args.parts.now.bag.delivered.items n true) c.index_of-i.ensures) on.bytes
+    delivered_whole c.args.parts.now c.mark_delivered.new.self c.args.k c.requires.whole c.mark_delivered.ensures
 
-pub arrive_at_manager-requires-clause-there : goal.arrive_at_manager-requires-clause-there
-arrive_at_manager-requires-clause-there c =
-    subst (λ ps. c.index_of-i.result < length ps) (sym c.mark_delivered.ensures.packets) (slice_get_within c.args.parts.now.bag.packets c.index_of-i.result c.in-Some.packet.now (sym c.in-Some.ensures))
+pub arrive_at_manager-requires-clause-said : goal.arrive_at_manager-requires-clause-said
+arrive_at_manager-requires-clause-said c =
+    delivers_sound c.args.parts.now c.mark_delivered.new.self c.args.k c.in_ok-packet.packet c.requires.whole c.in_ok-packet.ensures
+
+pub arrive_at_manager-requires-clause-fit : goal.arrive_at_manager-requires-clause-fit
+arrive_at_manager-requires-clause-fit c =
+    delivers_fit c.args.parts.now c.mark_delivered.new.self c.args.k c.in_ok-packet.packet Manager c.in_ok-packet.ensures c.in-Manager.is c.mark_delivered.ensures c.requires.fit
+
+pub returns-in-Manager : goal.returns-in-Manager
+returns-in-Manager c =
+    delivers_so c.args.parts.now c.arrive_at_manager.new.parts c.mark_delivered.new.self c.args.k c.in_ok-packet.packet Manager c.arrive_at_manager.result c.in_ok-packet.ensures c.in-Manager.is c.mark_delivered.ensures c.arrive_at_manager.ensures
 
 pub arrive_at_client-requires-clause-whole : goal.arrive_at_client-requires-clause-whole
 arrive_at_client-requires-clause-whole c =
-    let on = c.mark_delivered.ensures in
-    delivered_whole c.args.parts.now c.mark_delivered.new.bag c.args.k c.requires.whole on.packets on.lost (on.delivered ∙ ap (λ n. slice_set c.args.parts.now.bag.delivered.items n true) c.index_of-i.ensures) on.bytes
+    delivered_whole c.args.parts.now c.mark_delivered.new.self c.args.k c.requires.whole c.mark_delivered.ensures
 
-pub arrive_at_client-requires-clause-there : goal.arrive_at_client-requires-clause-there
-arrive_at_client-requires-clause-there c =
-    subst (λ ps. c.index_of-i.result < length ps) (sym c.mark_delivered.ensures.packets) (slice_get_within c.args.parts.now.bag.packets c.index_of-i.result c.in-Some.packet.now (sym c.in-Some.ensures))
+pub arrive_at_client-requires-clause-fit : goal.arrive_at_client-requires-clause-fit
+arrive_at_client-requires-clause-fit c =
+    delivers_fit c.args.parts.now c.mark_delivered.new.self c.args.k c.in_ok-packet.packet (Client c.in-Client.client) c.in_ok-packet.ensures c.in-Client.is c.mark_delivered.ensures c.requires.fit
+
+pub returns-in-Client : goal.returns-in-Client
+returns-in-Client c =
+    delivers_so c.args.parts.now c.arrive_at_client.new.parts c.mark_delivered.new.self c.args.k c.in_ok-packet.packet (Client c.in-Client.client) c.arrive_at_client.result c.in_ok-packet.ensures c.in-Client.is c.mark_delivered.ensures c.arrive_at_client.ensures
 
 pub arrive_at_server-requires-clause-whole : goal.arrive_at_server-requires-clause-whole
 arrive_at_server-requires-clause-whole c =
-    let on = c.mark_delivered.ensures in
-    delivered_whole c.args.parts.now c.mark_delivered.new.bag c.args.k c.requires.whole on.packets on.lost (on.delivered ∙ ap (λ n. slice_set c.args.parts.now.bag.delivered.items n true) c.index_of-i.ensures) on.bytes
+    delivered_whole c.args.parts.now c.mark_delivered.new.self c.args.k c.requires.whole c.mark_delivered.ensures
 
-pub arrive_at_server-requires-clause-there : goal.arrive_at_server-requires-clause-there
-arrive_at_server-requires-clause-there c =
-    subst (λ ps. c.index_of-i.result < length ps) (sym c.mark_delivered.ensures.packets) (slice_get_within c.args.parts.now.bag.packets c.index_of-i.result c.in-Some.packet.now (sym c.in-Some.ensures))
+pub arrive_at_server-requires-clause-said : goal.arrive_at_server-requires-clause-said
+arrive_at_server-requires-clause-said c =
+    delivers_sound c.args.parts.now c.mark_delivered.new.self c.args.k c.in_ok-packet.packet c.requires.whole c.in_ok-packet.ensures
+
+pub arrive_at_server-requires-clause-runs : goal.arrive_at_server-requires-clause-runs
+arrive_at_server-requires-clause-runs c =
+    delivers_to c.args.parts.now c.mark_delivered.new.self c.args.k c.in_ok-packet.packet c.in-Server.server c.in_ok-packet.ensures c.in-Server.is c.requires.free
+
+pub arrive_at_server-requires-clause-fit : goal.arrive_at_server-requires-clause-fit
+arrive_at_server-requires-clause-fit c =
+    delivers_fit c.args.parts.now c.mark_delivered.new.self c.args.k c.in_ok-packet.packet (Server c.in-Server.server) c.in_ok-packet.ensures c.in-Server.is c.mark_delivered.ensures c.requires.fit
+
+pub returns : goal.returns
+returns c =
+    delivers_so c.args.parts.now c.arrive_at_server.new.parts c.mark_delivered.new.self c.args.k c.in_ok-packet.packet (Server c.in-Server.server) c.arrive_at_server.result c.in_ok-packet.ensures c.in-Server.is c.mark_delivered.ensures c.arrive_at_server.ensures

@@ -8,7 +8,19 @@ use Rattle.kr_world.specs.World.{server_at}
 use Rattle.kr_world.specs.Step.{works}
 use Rattle.cluster_sim.specs.Parts.{world_of, noted, Makes}
 use Rattle.cluster_sim.proofs.PartsLemmas.{IsSettled, server_worked}
+use Rattle.cluster_sim.proofs.FitLemmas.{work_fits}
 use Rattle.cluster_sim.proofs.step.turns.work.Goals as goal
+
+pub settle-requires : goal.settle-requires
+settle-requires g c =
+    let parts = c.args.parts.now in
+    let nodes = parts.servers.items in
+    let i = c.args.server.0 - 1 in
+    let node = c.index_mut-node.result.now in
+    let at : c.index_of-i.result ≡ i = omega (arith, c.index_of-i.ensures, c.from.ensures) in
+    let within : i < length nodes = omega (arith, at) in
+    let there = slice_get_read nodes (length nodes) i node refl within (c.index_mut-node.ensures.value ∙ ap (λ n. get_or nodes n node) at) in
+    work_fits parts c.args.server node c.work.new.self c.in_ok-effects.effects there c.in_ok-effects.ensures c.requires.fit
 
 pub returns : goal.returns
 returns g c =
@@ -33,4 +45,4 @@ returns g c =
       journal = on.journal ∙ ap (λ n. noted parts.journal n effects.committed) c.done-before.ensures;
     } in
     let worked = server_worked parts made c.args.server node new effects c.requires.whole c.requires.free settled c.in_ok-effects.ensures in
-    subst (λ noting. Makes (works (world_of parts) c.args.server (server_at (world_of parts) c.args.server)) made noting) (sym c.nothing-2.ensures) worked
+    subst (λ noting. Makes (works (world_of parts) c.args.server (server_at (world_of parts) c.args.server)) parts.bag.before made noting) (sym c.nothing-2.ensures) worked

@@ -23,4 +23,4 @@ returns c =
     let changed : clients.items ≡ slice_set nodes i c.learn.new.self = ap (λ n. slice_set nodes n c.learn.new.self) at in
     let learnt = c.in_ok-learn.ensures.ok ∙ ap (λ view. record { client = learns node.client view; failed = false }) c.current.ensures in
     let made = client_learnt parts clients client node c.learn.new.self c.requires.whole there changed learnt in
-    subst (λ noting. Makes (learns_view (world_of parts) client (client_at (world_of parts) client)) (record parts { clients = clients }) noting) (sym c.nothing.ensures) made
+    subst (λ noting. Makes (learns_view (world_of parts) client (client_at (world_of parts) client)) parts.bag.before (record parts { clients = clients }) noting) (sym c.nothing.ensures) made
