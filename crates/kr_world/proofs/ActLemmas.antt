@@ -15,7 +15,7 @@ use Rattle.kr_protocol.specs.Manager.{Manager, removes, views_of, named_by, view
 use Rattle.kr_protocol.specs.Client.{Client}
 use Rattle.kr_protocol.specs.Server.{Server, newcomer}
 use Rattle.script_lang.specs.declared.script.Event.{Event}
-use Rattle.script_lang.specs.declared.script.Event.TheVariants.{Call, Query, Retry, Deliver, Lose, Tick, Work, Stop, Notice, Show, Join, Learn}
+use Rattle.script_lang.specs.declared.script.Event.TheVariants.{Call, Query, Retry, Deliver, Lose, Tick, Work, Stop, Notice, Show, Join, Round, Learn}
 use Rattle.script_lang.specs.Event.{IsEvent}
 use Rattle.kr_world.specs.declared.refusal.Refusal.{Refusal}
 use Rattle.kr_world.specs.World.{World, client_at, server_at, packet_at, has_stopped, marked, with_packets}
@@ -168,6 +168,7 @@ act_keeps past world (Stop server) none fit sound facts =
 act_keeps past world (Notice server) none fit sound facts =
     goes_on_keeps past world (Notice server) _ (λ caller. refl) (notices_goes_on past world (server_at world server) facts)
 act_keeps past world Join none fit sound facts = goes_on_keeps past world Join _ (λ caller. refl) (joins_goes_on past world facts)
+act_keeps past world Round none fit sound facts = goes_on_keeps past world Round _ (λ caller. refl) (quiet_goes_on past world world refl facts)
 act_keeps past world (Learn client) none fit sound facts =
     goes_on_keeps past world (Learn client) _ (λ caller. refl) (learns_goes_on past world client (client_at world client) refl facts)
 act_keeps past world (Show server) none fit sound facts =

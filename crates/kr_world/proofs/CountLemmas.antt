@@ -19,12 +19,12 @@ use Rattle.kr_order.specs.declared.view.View.{View}
 use Rattle.kr_protocol.specs.Server.{Server}
 use Rattle.kr_protocol.specs.Client.{Client, new_client, unheard, closes, after_reply, may_answer_all, answered, after_answers, answers_from, turns_to, after_refer, message_to, client_takes, begins, asks, learns}
 use Rattle.script_lang.specs.declared.script.Event.{Event}
-use Rattle.script_lang.specs.declared.script.Event.TheVariants.{Call, Query, Retry, Deliver, Lose, Tick, Work, Stop, Notice, Show, Join, Learn}
+use Rattle.script_lang.specs.declared.script.Event.TheVariants.{Call, Query, Retry, Deliver, Lose, Tick, Work, Stop, Notice, Show, Join, Round, Learn}
 use Rattle.kr_world.specs.declared.refusal.Refusal.{Refusal}
 use Rattle.kr_order.specs.View.{first_view}
 use Rattle.kr_order.specs.Numbers.{numbers_to}
 use Rattle.kr_world.specs.World.{World, first_world, client_at, server_at, packet_at, marked}
-use Rattle.kr_world.specs.Step.{Outcome, refusal_of, client_calls, client_asks, client_retries, arrives_at_client, arrives_at_server, arrives, delivers, works, ticks, ticks_at, shows, act, unless, notices, learns_view, quiet, manager_tells, joined_at_manager, told_by_server, arrives_at_manager}
+use Rattle.kr_world.specs.Step.{Outcome, refusal_of, step, client_calls, client_asks, client_retries, arrives_at_client, arrives_at_server, arrives, delivers, works, ticks, ticks_at, shows, act, unless, notices, learns_view, quiet, manager_tells, joined_at_manager, told_by_server, arrives_at_manager}
 use Rattle.kr_world.specs.Sound.{HaveBegun, QueriesAreCounted}
 use Rattle.kr_world.proofs.ListFacts.{all_of}
 use Rattle.kr_world.proofs.StepLemmas.{at_index}
@@ -70,15 +70,15 @@ heard_q client from other = refl
 
 -- so many queries at the most have been begun by each client after the step
 abbrev CountsOn : ℕ → Outcome → Type 0
-CountsOn n outcome = HaveBegun (n + 1) outcome.after.clients
+CountsOn n outcome = HaveBegun n outcome.after.clients
 
-count_on : (n : ℕ) (clients : List Client) → HaveBegun n clients → HaveBegun (n + 1) clients
+pub count_on : (n : ℕ) (clients : List Client) → HaveBegun n clients → HaveBegun (n + 1) clients
 count_on n clients known = All-weaker (λ c. c.q ≤ n) (λ c. c.q ≤ n + 1) (λ c le. omega arith) clients known
 
 -- one client goes on
-one_counts : (n : ℕ) (clients : List Client) (i : ℕ) (after : Client) → after.q ≤ n + 1 → HaveBegun n clients
-    → HaveBegun (n + 1) (slice_set clients i after)
-one_counts n clients i after le known = All-set (λ c. c.q ≤ n + 1) clients i after le (count_on n clients known)
+one_counts : (n : ℕ) (clients : List Client) (i : ℕ) (after : Client) → after.q ≤ n → HaveBegun n clients
+    → HaveBegun n (slice_set clients i after)
+one_counts n clients i after le known = All-set (λ c. c.q ≤ n) clients i after le known
 
 own_count : (n : ℕ) (world : World) (id : ClientId) (client : Client) → client_at world id ≡ Some client → HaveBegun n world.clients
     → client.q ≤ n
@@ -86,26 +86,26 @@ own_count n world id client is known = at_index (λ c. c.q ≤ n) world.clients 
 
 calls_count : (n : ℕ) (world : World) (id : ClientId) (command : Command) (found : Option Client) → client_at world id ≡ found
     → HaveBegun n world.clients → CountsOn n (client_calls world id command found)
-calls_count n world id command None is known = count_on n world.clients known
+calls_count n world id command None is known = known
 calls_count n world id command (Some client) is known =
     let le = own_count n world id client is known in
     one_counts n world.clients (id.0 - 1) (begins client command).after (omega arith) known
 
 asks_count : (n : ℕ) (world : World) (id : ClientId) (server : ServerId) (pairs : List (EventId × EventId)) (found : Option Client)
-    → client_at world id ≡ found → HaveBegun n world.clients → CountsOn n (client_asks world id server pairs found)
+    → client_at world id ≡ found → HaveBegun n world.clients → CountsOn (n + 1) (client_asks world id server pairs found)
 asks_count n world id server pairs None is known = count_on n world.clients known
 asks_count n world id server pairs (Some client) is known =
     let le = own_count n world id client is known in
-    one_counts n world.clients (id.0 - 1) (asks client server pairs).after (omega arith) known
+    one_counts (n + 1) world.clients (id.0 - 1) (asks client server pairs).after (omega arith) (count_on n world.clients known)
 
 retries_count : (n : ℕ) (world : World) (server : ServerId) (found : Option Client) → HaveBegun n world.clients
     → CountsOn n (client_retries world server found)
-retries_count n world server None known = count_on n world.clients known
-retries_count n world server (Some client) known = count_on n world.clients known
+retries_count n world server None known = known
+retries_count n world server (Some client) known = known
 
 hears_count : (n : ℕ) (world : World) (id : ClientId) (packet : Packet) (found : Option Client) → client_at world id ≡ found
     → HaveBegun n world.clients → CountsOn n (arrives_at_client world id packet found)
-hears_count n world id packet None is known = count_on n world.clients known
+hears_count n world id packet None is known = known
 hears_count n world id packet (Some client) is known =
     let le = own_count n world id client is known in
     let same = heard_q client packet.from packet.message in
@@ -113,23 +113,23 @@ hears_count n world id packet (Some client) is known =
 
 takes_count : (n : ℕ) (world : World) (id : ServerId) (packet : Packet) (found : Option Server) → HaveBegun n world.clients
     → CountsOn n (arrives_at_server world id packet found)
-takes_count n world id packet None known = count_on n world.clients known
-takes_count n world id packet (Some server) known = count_on n world.clients known
+takes_count n world id packet None known = known
+takes_count n world id packet (Some server) known = known
 
 joined_count : (n : ℕ) (world : World) (from joiner : ServerId) → HaveBegun n world.clients → CountsOn n (joined_at_manager world from joiner)
 joined_count n world from joiner known = by_test (may_promote world.manager.current from joiner)
   where
     by_test : (test : Bool) → CountsOn n (cond test (manager_tells world (promotes world.manager joiner)) (quiet world))
-    by_test true = count_on n world.clients known
-    by_test false = count_on n world.clients known
+    by_test true = known
+    by_test false = known
 
 told_count : (n : ℕ) (world : World) (from : ServerId) (message : Message) → HaveBegun n world.clients → CountsOn n (told_by_server world from message)
 told_count n world from (Joined joiner) known = joined_count n world from joiner known
-told_count n world from other known = count_on n world.clients known
+told_count n world from other known = known
 
 manager_count : (n : ℕ) (world : World) (from : nodes.Node) (message : Message) → HaveBegun n world.clients → CountsOn n (arrives_at_manager world from message)
-manager_count n world Manager message known = count_on n world.clients known
-manager_count n world (ToClient client) message known = count_on n world.clients known
+manager_count n world Manager message known = known
+manager_count n world (ToClient client) message known = known
 manager_count n world (ToServer server) message known = told_count n world server message known
 
 arrives_count : (n : ℕ) (world : World) (to : nodes.Node) (packet : Packet) → HaveBegun n world.clients
@@ -139,48 +139,66 @@ arrives_count n world (ToClient client) packet known = hears_count n world clien
 arrives_count n world (ToServer server) packet known = takes_count n world server packet (server_at world server) known
 
 delivers_count : (n : ℕ) (world : World) (k : ℕ) (found : Option Packet) → HaveBegun n world.clients → CountsOn n (delivers world k found)
-delivers_count n world k None known = count_on n world.clients known
+delivers_count n world k None known = known
 delivers_count n world k (Some packet) known = arrives_count n (record world { delivered = marked world.delivered k }) packet.to packet known
 
 works_count : (n : ℕ) (world : World) (id : ServerId) (found : Option Server) → HaveBegun n world.clients → CountsOn n (works world id found)
-works_count n world id None known = count_on n world.clients known
-works_count n world id (Some server) known = count_on n world.clients known
+works_count n world id None known = known
+works_count n world id (Some server) known = known
 
 ticks_count : (n : ℕ) (world : World) (id : ServerId) (found : Option Server) → HaveBegun n world.clients → CountsOn n (ticks_at world id found)
-ticks_count n world id None known = count_on n world.clients known
-ticks_count n world id (Some server) known = count_on n world.clients known
+ticks_count n world id None known = known
+ticks_count n world id (Some server) known = known
 
 turn_count : (n : ℕ) (world : World) (who : Option ServerId) → HaveBegun n world.clients → CountsOn n (ticks world who)
-turn_count n world None known = count_on n world.clients known
+turn_count n world None known = known
 turn_count n world (Some server) known = ticks_count n world server (server_at world server) known
 
 shows_count : (n : ℕ) (world : World) (id : ServerId) (found : Option Server) → HaveBegun n world.clients → CountsOn n (shows world id found)
-shows_count n world id None known = count_on n world.clients known
-shows_count n world id (Some server) known = count_on n world.clients known
+shows_count n world id None known = known
+shows_count n world id (Some server) known = known
 
 notices_count : (n : ℕ) (world : World) (found : Option Server) → HaveBegun n world.clients → CountsOn n (notices world found)
-notices_count n world None known = count_on n world.clients known
-notices_count n world (Some server) known = count_on n world.clients known
+notices_count n world None known = known
+notices_count n world (Some server) known = known
 
 learns_count : (n : ℕ) (world : World) (id : ClientId) (found : Option Client) → client_at world id ≡ found → HaveBegun n world.clients → CountsOn n (learns_view world id found)
-learns_count n world id None is known = count_on n world.clients known
+learns_count n world id None is known = known
 learns_count n world id (Some client) is known =
     let le = own_count n world id client is known in
     one_counts n world.clients (id.0 - 1) (learns client world.manager.current) (omega arith) known
 
-act_count : (n : ℕ) (world : World) (event : Event) → HaveBegun n world.clients → CountsOn n (act world event)
-act_count n world (Call client command) known = calls_count n world client command (client_at world client) refl known
+-- an event that is no query
+abbrev pub AsksNothing : Event → Type 0
+AsksNothing (Query client server pairs) = ⊥
+AsksNothing event = Unit {0}
+
+act_kept : (n : ℕ) (world : World) (event : Event) → AsksNothing event → HaveBegun n world.clients → CountsOn n (act world event)
+act_kept n world (Call client command) _ known = calls_count n world client command (client_at world client) refl known
+act_kept n world (Query client server pairs) asks known = absurd asks
+act_kept n world (Retry client server) _ known = retries_count n world server (client_at world client) known
+act_kept n world (Deliver k) _ known = delivers_count n world k (packet_at world k) known
+act_kept n world (Lose k) _ known = known
+act_kept n world (Tick who) _ known = turn_count n world who known
+act_kept n world (Work server workers) _ known = works_count n world server (server_at world server) known
+act_kept n world (Stop server) _ known = known
+act_kept n world (Notice server) _ known = notices_count n world (server_at world server) known
+act_kept n world (Show server) _ known = shows_count n world server (server_at world server) known
+act_kept n world Join _ known = known
+act_kept n world Round _ known = known
+act_kept n world (Learn client) _ known = learns_count n world client (client_at world client) refl known
+
+act_count : (n : ℕ) (world : World) (event : Event) → HaveBegun n world.clients → HaveBegun (n + 1) (act world event).after.clients
 act_count n world (Query client server pairs) known = asks_count n world client server pairs (client_at world client) refl known
-act_count n world (Retry client server) known = retries_count n world server (client_at world client) known
-act_count n world (Deliver k) known = delivers_count n world k (packet_at world k) known
-act_count n world (Lose k) known = count_on n world.clients known
-act_count n world (Tick who) known = turn_count n world who known
-act_count n world (Work server workers) known = works_count n world server (server_at world server) known
-act_count n world (Stop server) known = count_on n world.clients known
-act_count n world (Notice server) known = notices_count n world (server_at world server) known
-act_count n world (Show server) known = shows_count n world server (server_at world server) known
-act_count n world Join known = count_on n world.clients known
-act_count n world (Learn client) known = learns_count n world client (client_at world client) refl known
+act_count n world event known = count_on n (act world event).after.clients (act_kept n world event tt known)
+
+-- a step that is no query begins none
+pub queries_kept : (n : ℕ) (world : World) (event : Event) → AsksNothing event → HaveBegun n world.clients → HaveBegun n (step world event).after.clients
+queries_kept n world event none known = by_refusal (refusal_of world event)
+  where
+    by_refusal : (refusal : Option Refusal) → HaveBegun n (unless world refusal (act world event)).after.clients
+    by_refusal None = act_kept n world event none known
+    by_refusal (Some why) = known
 
 pub queries_counted : QueriesAreCounted
 queries_counted n world event known = by_refusal (refusal_of world event)

@@ -10,7 +10,7 @@ use Rattle.kr_protocol.specs.Manager.{names}
 use Rattle.kr_protocol.specs.Server.{Server}
 use Rattle.kr_protocol.specs.Client.{Client, is_busy}
 use Rattle.script_lang.specs.declared.script.Event.{Event}
-use Rattle.script_lang.specs.declared.script.Event.TheVariants.{Call, Query, Retry, Deliver, Tick, Work, Notice, Join}
+use Rattle.script_lang.specs.declared.script.Event.TheVariants.{Call, Query, Retry, Deliver, Tick, Work, Notice, Join, Round}
 use Rattle.kr_world.specs.declared.refusal.Refusal.TheVariants.{BagFull}
 use Rattle.kr_world.specs.FullBag.{AFullBagRefuses}
 use Rattle.kr_world.specs.World.{World, client_at, server_at, packet_at, is_marked, is_stopped, has_stopped}
@@ -121,6 +121,9 @@ join_full :
 join_full world enough none few =
     refused world Join (rw (none, lt-leb most_servers world.manager.made few, enough) refl)
 
+round_full : (world : World) → is_full world ≡ true → step world Round ≡ refuses world BagFull
+round_full world enough = refused world Round (full world enough)
+
 pub full_refuses : AFullBagRefuses
 full_refuses =
     record {
@@ -133,4 +136,5 @@ full_refuses =
       views = view_full;
       notices = notice_full;
       joins = join_full;
+      rounds = round_full;
     }

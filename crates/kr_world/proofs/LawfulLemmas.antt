@@ -13,6 +13,7 @@ use Rattle.script_lang.specs.Event.{IsEvent}
 use Rattle.script_lang.specs.Script.{IsScript}
 use Rattle.kr_world.specs.World.{World, first_world}
 use Rattle.kr_world.specs.Step.{step}
+use Rattle.kr_world.specs.Round.{steps_of}
 use Rattle.kr_world.specs.Run.{Turn, run_from, run_of}
 use Rattle.kr_world.specs.Sound.{IsSound}
 use Rattle.kr_world.specs.Lawful.{IsNumbered, IsPartTrue, RunsAreLawful, begun_by, entries_of, history_after}
@@ -22,6 +23,7 @@ use Rattle.kr_world.proofs.SoundLemmas.{worlds_sound}
 use Rattle.kr_world.proofs.PartLemmas.{IsPassedOn, part_true}
 use Rattle.kr_world.proofs.KeepLemmas.{turn_of, IsNewPart, Keeps}
 use Rattle.kr_world.proofs.ActLemmas.{step_keeps}
+use Rattle.kr_world.proofs.RoundEventLemmas.{script_fits}
 use Rattle.kr_world.proofs.FirstFactLemmas.{first_facts}
 
 -- a run may go on by these events from this world, after these steps
@@ -92,12 +94,11 @@ run_grows past world (event ∷ events) may (suc i) (suc j) earlier later le is 
     run_grows (past ++ first ∷ []) (step world event).after events (goes_on past world event events may) i j earlier later (omega arith) is is'
 
 -- the run of a script may go on from its first world
-may_begin : (script : Script) → IsScript script → MayGoOn [] (first_world script.servers script.clients) script.events
+may_begin : (script : Script) → IsScript script → MayGoOn [] (first_world script.servers script.clients) (steps_of (first_world script.servers script.clients) script.events)
 may_begin script fit =
-    let most = fit.size.servers_fit.high in
     record {
-      each = fit.each;
-      sound = worlds_sound.first script.servers script.clients fit.size.servers_fit.low (omega arith);
+      each = script_fits script fit;
+      sound = worlds_sound.first script.servers script.clients fit.size.servers_fit.low (omega (arith, fit.size.servers_fit.high));
       facts = first_facts script.servers script.clients;
     }
 
@@ -105,9 +106,10 @@ pub runs_lawful : RunsAreLawful
 runs_lawful script fit =
     let run = run_of script in
     let first = first_world script.servers script.clients in
+    let steps = steps_of first script.events in
     let may = may_begin script fit in
-    let keeps = run_keeps [] first script.events may in
-    let grows = run_grows [] first script.events may in
+    let keeps = run_keeps [] first steps may in
+    let grows = run_grows [] first steps may in
     record {
       one_place = record {
         grows = grows;

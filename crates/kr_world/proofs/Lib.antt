@@ -6,6 +6,7 @@ pub mod AnsweredLemmas
 pub mod AppendLemmas
 pub mod AskLemmas
 pub mod BagLemmas
+pub mod BeforesLemmas
 pub mod BelowLemmas
 pub mod BoundsLemmas
 pub mod CallLemmas
@@ -21,6 +22,7 @@ pub mod FirstFactLemmas
 pub mod FirstLemmas
 pub mod FullBagLemmas
 pub mod GainLemmas
+pub mod GrowLemmas
 pub mod HandlerLemmas
 pub mod HearLemmas
 pub mod HeardLemmas
@@ -38,6 +40,11 @@ pub mod ReactionLemmas
 pub mod ReceiveLemmas
 pub mod RequestLemmas
 pub mod RetryLemmas
+pub mod RoundCountLemmas
+pub mod RoundEventLemmas
+pub mod RoundLemmas
+pub mod RoundLoopLemmas
+pub mod RoundShapeLemmas
 pub mod SaidLemmas
 pub mod SeatLemmas
 pub mod SendLemmas
@@ -45,6 +52,7 @@ pub mod ServerLemmas
 pub mod ServerStepLemmas
 pub mod ShapeLemmas
 pub mod SoundLemmas
+pub mod StepByStepLemmas
 pub mod StepLemmas
 pub mod SureLemmas
 pub mod TurnLemmas

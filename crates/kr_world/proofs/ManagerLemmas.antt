@@ -33,7 +33,7 @@ use Rattle.kr_world.proofs.BagLemmas.{packets_sound}
 use Rattle.kr_world.proofs.SeatLemmas.{mark_of, sender_is}
 
 -- who was marked stays marked
-still_marked : (marks : List Bool) (k n : ℕ) → is_marked marks n ≡ true → is_marked (marked marks k) n ≡ true
+pub still_marked : (marks : List Bool) (k n : ℕ) → is_marked marks n ≡ true → is_marked (marked marks k) n ≡ true
 still_marked marks k n is = by_place marks (k - 1) (n - 1) is
   where
     by_place : (marks : List Bool) (i j : ℕ) → slice_index_or marks j false ≡ true → slice_index_or (slice_set marks i true) j false ≡ true

@@ -65,7 +65,7 @@ replies_few server upto = by_test (is_at_tail server)
     by_test false = omega arith
 
 -- the last of each client's are among them
-lasts_all : (P : DoneEntry → Type 0) (dones : List DoneEntry) → All P dones → All P (lasts dones)
+pub lasts_all : (P : DoneEntry → Type 0) (dones : List DoneEntry) → All P dones → All P (lasts dones)
 lasts_all P [] all = All-nil P
 lasts_all P (done ∷ more) all = by_test (lasts_all P more (All-tail P done more all)) (is_among done.entry.client more)
   where

@@ -11,7 +11,7 @@ use Rattle.kr_protocol.specs.Manager.{views_of}
 use Rattle.kr_protocol.specs.Reaction.{ignored}
 use Rattle.kr_protocol.specs.Server.{Server, adopts, server_takes, server_works, server_ticks}
 use Rattle.script_lang.specs.declared.script.Event.{Event}
-use Rattle.script_lang.specs.declared.script.Event.TheVariants.{Call, Query, Retry, Deliver, Lose, Tick, Work, Stop, Notice, Show, Join, Learn}
+use Rattle.script_lang.specs.declared.script.Event.TheVariants.{Call, Query, Retry, Deliver, Lose, Tick, Work, Stop, Notice, Show, Join, Round, Learn}
 use Rattle.kr_world.specs.declared.refusal.Refusal.{Refusal}
 use Rattle.kr_world.specs.World.{World, client_at, server_at, packet_at, is_stopped, has_stopped, marked}
 use Rattle.kr_world.specs.Step.{bag_limit, if_full, turn_refusal, deliver_refusal, tick_refusal, refusal_of, arrives_at_server, told_by_server, arrives_at_manager, arrives, delivers, works, ticks, ticks_at, shows, act, unless}
@@ -165,6 +165,7 @@ act_sound world (Stop server) none sound = stop_sound world server (server_at wo
 act_sound world (Notice server) none sound = notice_sound world server (server_at world server) refl none sound
 act_sound world (Show server) none sound = shows_sound world server (server_at world server) sound
 act_sound world Join none sound = join_sound world none sound
+act_sound world Round none sound = sound
 act_sound world (Learn client) none sound = learn_sound world client (client_at world client) refl sound
 
 step_cases :

@@ -8,14 +8,14 @@ use Rattle.kr_order.specs.declared.message.Packet.{Packet}
 use Rattle.kr_protocol.specs.Client.{Client, is_busy}
 use Rattle.kr_protocol.specs.Manager.{names}
 use Rattle.kr_protocol.specs.Server.{Server}
-use Rattle.script_lang.specs.declared.script.Event.TheVariants.{Call, Query, Retry, Deliver, Tick, Work, Notice, Join}
+use Rattle.script_lang.specs.declared.script.Event.TheVariants.{Call, Query, Retry, Deliver, Tick, Work, Notice, Join, Round}
 use Rattle.kr_world.specs.declared.refusal.Refusal.TheVariants.{BagFull}
 use Rattle.kr_world.specs.World.{World, client_at, server_at, packet_at, is_marked, is_stopped, has_stopped}
 use Rattle.kr_world.specs.Step.{is_full, most_servers, refuses, step}
 
 -- from 65,000 packets or 268,435,456 bytes of packets on each call and each query of an idle client, each retry of an
--- open call, each delivery, the work and the tick of each server that runs, the manager's tick, and each notice of a
--- server that has stopped is refused, and changes nothing
+-- open call, each delivery, the work and the tick of each server that runs, the manager's tick, each notice of a server
+-- that has stopped, and each round is refused, and changes nothing
 pub record AFullBagRefuses : Type 0 where
   pub calls :
       (world : World) (id : ClientId) (command : Command) (client : Client)
@@ -73,3 +73,4 @@ pub record AFullBagRefuses : Type 0 where
       → world.manager.current.joiner ≡ None
       → world.manager.made < most_servers
       → step world Join ≡ refuses world BagFull
+  pub rounds : (world : World) → is_full world ≡ true → step world Round ≡ refuses world BagFull

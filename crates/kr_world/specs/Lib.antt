@@ -2,12 +2,15 @@ pub mod Refusal
 pub mod World
 pub mod Step
 pub mod Lines
+pub mod Round
 pub mod Run
+pub mod Counts
 pub mod Rows
 pub mod ChainRows
 pub mod QueryRows
 pub mod StopRows
 pub mod JoinRows
+pub mod RoundRows
 pub mod HeldRows
 pub mod Sound
 pub mod Lawful

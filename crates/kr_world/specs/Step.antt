@@ -15,7 +15,7 @@ use Rattle.kr_protocol.specs.Reaction.{Reaction}
 use Rattle.kr_protocol.specs.Server.{Server, newcomer, acknowledged, view_number, server_takes, server_works, server_ticks}
 use Rattle.kr_protocol.specs.Client.{Client, Hearing, is_busy, unheard, begins, asks, retries, learns, client_takes}
 use Rattle.script_lang.specs.declared.script.Event.{Event}
-use Rattle.script_lang.specs.declared.script.Event.TheVariants.{Call, Query, Retry, Deliver, Lose, Tick, Work, Stop, Notice, Show, Join, Learn}
+use Rattle.script_lang.specs.declared.script.Event.TheVariants.{Call, Query, Retry, Deliver, Lose, Tick, Work, Stop, Notice, Show, Join, Round, Learn}
 use Rattle.kr_order.specs.View.{in_chain}
 use Rattle.kr_protocol.specs.Manager.{Manager, names, members_but, may_promote, next_server, removes, adds, promotes, announces}
 use Rattle.kr_order.specs.Held.{held_events, held_pairs}
@@ -116,7 +116,7 @@ abbrev pub learn_refusal : Option Client → Option Refusal
 learn_refusal None = Some NoSuchClient
 learn_refusal (Some client) = None
 
--- why the event is refused in this world, if it is
+-- why the event is refused in this world, if it is. A round is refused as a whole only where the bag is full at its start.
 abbrev pub refusal_of : World → Event → Option Refusal
 refusal_of world (Call client command) = call_refusal world (client_at world client)
 refusal_of world (Query client server pairs) = query_refusal world server (client_at world client) (server_at world server)
@@ -129,6 +129,7 @@ refusal_of world (Stop server) = stop_refusal world server (server_at world serv
 refusal_of world (Notice server) = notice_refusal world server (server_at world server)
 refusal_of world (Show server) = show_refusal world server (server_at world server)
 refusal_of world Join = join_refusal world
+refusal_of world Round = if_full world
 refusal_of world (Learn client) = learn_refusal (client_at world client)
 
 -- a reply that a client was told in a step
@@ -281,7 +282,8 @@ abbrev pub shows : World → ServerId → Option Server → Outcome
 shows world id None = quiet world
 shows world id (Some server) = record (quiet world) { shown = Some (shown_of id server) }
 
--- what an event does that is not refused
+-- what an event does that is not refused. A round that is not refused is never one step: its plain steps are done in its
+-- place.
 abbrev pub act : World → Event → Outcome
 act world (Call client command) = client_calls world client command (client_at world client)
 act world (Query client server pairs) = client_asks world client server pairs (client_at world client)
@@ -294,6 +296,7 @@ act world (Stop server) = stops world server
 act world (Notice server) = notices world (server_at world server)
 act world (Show server) = shows world server (server_at world server)
 act world Join = joins world
+act world Round = quiet world
 act world (Learn client) = learns_view world client (client_at world client)
 
 abbrev pub unless : World → Option Refusal → Outcome → Outcome

@@ -11,7 +11,7 @@ use Rattle.kr_order.specs.declared.ids.ServerId.{ServerId}
 use Rattle.kr_order.specs.declared.history.Command.TheVariants.{Create, Assign, Acquire, Release}
 use Rattle.kr_order.specs.Text.{pair_word, pair_words, asked_word}
 use Rattle.script_lang.specs.declared.script.Event.{Event}
-use Rattle.script_lang.specs.declared.script.Event.TheVariants.{Call, Query, Retry, Deliver, Lose, Tick, Work, Stop, Notice, Show, Join, Learn}
+use Rattle.script_lang.specs.declared.script.Event.TheVariants.{Call, Query, Retry, Deliver, Lose, Tick, Work, Stop, Notice, Show, Join, Round, Learn}
 use Rattle.script_lang.specs.Line.{HasNoEnd, HasNoSpace}
 use Rattle.script_lang.specs.Number.{IsFromOneTo, BeginsNo}
 use Rattle.script_lang.specs.Event.{IsPair, IsAskedPair, IsEvent, asked_words, event_word, event_words, event_text}
@@ -37,6 +37,7 @@ event_word-has_no_end (Stop server) = no_end_by_test (codes "stop") refl
 event_word-has_no_end (Notice server) = no_end_by_test (codes "notice") refl
 event_word-has_no_end (Show server) = no_end_by_test (codes "show") refl
 event_word-has_no_end Join = no_end_by_test (codes "join") refl
+event_word-has_no_end Round = no_end_by_test (codes "round") refl
 event_word-has_no_end (Learn client) = no_end_by_test (codes "learn") refl
 
 -- whether no byte is a space
@@ -67,6 +68,7 @@ event_word-has_no_space (Stop server) = no_space_by_test (codes "stop") refl
 event_word-has_no_space (Notice server) = no_space_by_test (codes "notice") refl
 event_word-has_no_space (Show server) = no_space_by_test (codes "show") refl
 event_word-has_no_space Join = no_space_by_test (codes "join") refl
+event_word-has_no_space Round = no_space_by_test (codes "round") refl
 event_word-has_no_space (Learn client) = no_space_by_test (codes "learn") refl
 
 -- what follows it begins with a space, where anything does
@@ -85,6 +87,7 @@ event_words-begin (Stop server) = λ other. other refl
 event_words-begin (Notice server) = λ other. other refl
 event_words-begin (Show server) = λ other. other refl
 event_words-begin Join = tt
+event_words-begin Round = tt
 event_words-begin (Learn client) = λ other. other refl
 
 -- the first and the fourth letter of a first word, which tell it
@@ -121,6 +124,7 @@ event_words-has_no_end (Stop server) fit = one_word-has_no_end 4294967295 server
 event_words-has_no_end (Notice server) fit = one_word-has_no_end 4294967295 server.0 (omega arith) fit
 event_words-has_no_end (Show server) fit = one_word-has_no_end 4294967295 server.0 (omega arith) fit
 event_words-has_no_end Join fit = All-nil (λ b. b ≢ 10)
+event_words-has_no_end Round fit = All-nil (λ b. b ≢ 10)
 event_words-has_no_end (Learn client) fit = one_word-has_no_end 4294967295 client.0 (omega arith) fit
 
 -- no event's text has an LF in it
@@ -175,6 +179,7 @@ event-by_words (Notice server) (Notice server') fit fit' _ same =
 event-by_words (Show server) (Show server') fit fit' _ same =
     ap Show (same_server server server' (one_word-injective 4294967295 server.0 server'.0 (omega arith) fit fit' same))
 event-by_words Join Join _ _ _ _ = refl
+event-by_words Round Round _ _ _ _ = refl
 event-by_words (Learn client) (Learn client') fit fit' _ same =
     ap Learn (same_client client client' (one_word-injective 4294967295 client.0 client'.0 (omega arith) fit fit' same))
 event-by_words one (Call client' Create) _ _ named _ = absurd (omega (arith, ap word_key named))

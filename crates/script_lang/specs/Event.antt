@@ -9,7 +9,7 @@ use Rattle.kr_order.specs.declared.history.Command.{Command}
 use Rattle.kr_order.specs.declared.history.Command.TheVariants.{Create, Assign, Acquire, Release}
 use Rattle.kr_order.specs.Text.{command_word, command_words, asked_word}
 use Rattle.script_lang.specs.declared.script.Event.{Event}
-use Rattle.script_lang.specs.declared.script.Event.TheVariants.{Call, Query, Retry, Deliver, Lose, Tick, Work, Stop, Notice, Show, Join, Learn}
+use Rattle.script_lang.specs.declared.script.Event.TheVariants.{Call, Query, Retry, Deliver, Lose, Tick, Work, Stop, Notice, Show, Join, Round, Learn}
 use Rattle.script_lang.specs.Number.{IsFromOneTo}
 
 -- a number of a client, a server or a packet, as a line may give it
@@ -82,6 +82,7 @@ IsEvent (Stop server) = IsNumber server.0
 IsEvent (Notice server) = IsNumber server.0
 IsEvent (Show server) = IsNumber server.0
 IsEvent Join = Unit {0}
+IsEvent Round = Unit {0}
 IsEvent (Learn client) = IsNumber client.0
 
 -- the words of a query, each with a space before it
@@ -106,6 +107,7 @@ event_word (Stop server) = codes "stop"
 event_word (Notice server) = codes "notice"
 event_word (Show server) = codes "show"
 event_word Join = codes "join"
+event_word Round = codes "round"
 event_word (Learn client) = codes "learn"
 
 -- the words that follow it, each with a space before it
@@ -122,6 +124,7 @@ event_words (Stop server) = codes " " ++ decimal server.0
 event_words (Notice server) = codes " " ++ decimal server.0
 event_words (Show server) = codes " " ++ decimal server.0
 event_words Join = []
+event_words Round = []
 event_words (Learn client) = codes " " ++ decimal client.0
 
 -- its line, without the end

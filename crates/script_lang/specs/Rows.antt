@@ -7,7 +7,7 @@ use Rattle.kr_order.specs.declared.batch.Kind.TheVariants.{Must, Prefer}
 use Rattle.kr_order.specs.declared.batch.Pair.{Pair}
 use Rattle.kr_order.specs.declared.history.Command.TheVariants.{Create, Assign, Acquire, Release}
 use Rattle.script_lang.specs.declared.script.Event.{Event}
-use Rattle.script_lang.specs.declared.script.Event.TheVariants.{Call, Query, Retry, Deliver, Lose, Tick, Work, Stop, Notice, Show, Join, Learn}
+use Rattle.script_lang.specs.declared.script.Event.TheVariants.{Call, Query, Retry, Deliver, Lose, Tick, Work, Stop, Notice, Show, Join, Round, Learn}
 use Rattle.script_lang.specs.declared.script.Script.{Script}
 use Rattle.script_lang.specs.Line.{line}
 
@@ -44,7 +44,7 @@ each_kind_of_event =
     ∷ Call (client 1) (Acquire (event 18446744073709551615)) ∷ Call (client 16) (Release (event 1))
     ∷ Query (client 1) (server 2) pairs_of_query ∷ Retry (client 1) (server 4294967295)
     ∷ Deliver 4294967295 ∷ Lose 1 ∷ Tick (Some (server 4294967295)) ∷ Tick None ∷ Work (server 1) 8
-    ∷ Stop (server 4294967295) ∷ Notice (server 1) ∷ Show (server 10) ∷ Join ∷ Learn (client 4294967295) ∷ []
+    ∷ Stop (server 4294967295) ∷ Notice (server 1) ∷ Show (server 10) ∷ Join ∷ Round ∷ Learn (client 4294967295) ∷ []
 
 abbrev pub each_kind : Script
 each_kind = record { servers = 1; clients = 16; events = each_kind_of_event }
@@ -58,7 +58,8 @@ each_kind_spelt =
     ++ line (codes "query 1 2 1,2 3,3") ++ line (codes "retry 1 4294967295")
     ++ line (codes "deliver 4294967295") ++ line (codes "lose 1") ++ line (codes "tick 4294967295")
     ++ line (codes "tick 0") ++ line (codes "work 1 8") ++ line (codes "stop 4294967295")
-    ++ line (codes "notice 1") ++ line (codes "show 10") ++ line (codes "join") ++ line (codes "learn 4294967295")
+    ++ line (codes "notice 1") ++ line (codes "show 10") ++ line (codes "join") ++ line (codes "round")
+    ++ line (codes "learn 4294967295")
 
 -- the events of the other
 abbrev pub events_of_three : List Event

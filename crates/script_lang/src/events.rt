@@ -60,6 +60,8 @@ fn event_by(alloc: Global, word: &[u8], words: &[u8]) -> Result<Option<Event>, N
         Ok(show_of(words))
     } else if is(word, b"join") {
         Ok(join_of(words))
+    } else if is(word, b"round") {
+        Ok(round_of(words))
     } else if is(word, b"learn") {
         Ok(learn_of(words))
     } else {
@@ -220,6 +222,17 @@ fn join_of(words: &[u8]) -> Option<Event>
         return None;
     }
     Some(Event::Join)
+}
+
+// The event of `round`, behind the word, where nothing may stand.
+fn round_of(words: &[u8]) -> Option<Event>
+    ensures { Spells event_words (IsEventOf (codes "round")) words.now result }
+{
+    if words.is_empty() {
+        Some(Event::Round)
+    } else {
+        None
+    }
 }
 
 // The event of `learn c`, behind the first word.

@@ -54,6 +54,7 @@ fn add_event_word(out: &mut Vec<u8>, event: &Event) -> Result<(), NoMemory>
         Event::Notice(_) => add_text(out, b"notice"),
         Event::Show(_) => add_text(out, b"show"),
         Event::Join => add_text(out, b"join"),
+        Event::Round => add_text(out, b"round"),
         Event::Learn(_) => add_text(out, b"learn"),
     }
 }
@@ -82,7 +83,7 @@ fn add_event_words(out: &mut Vec<u8>, event: &Event) -> Result<(), NoMemory>
         Event::Stop(server) | Event::Notice(server) | Event::Show(server) => {
             add_number_word(out, u64::from(server.0))
         }
-        Event::Join => Ok(()),
+        Event::Join | Event::Round => Ok(()),
         Event::Learn(client) => add_number_word(out, u64::from(client.0)),
     }
 }

@@ -43,6 +43,9 @@ pub enum Event {
     Show(ServerId),
     /// `join`: a new server is to become the last member of the chain.
     Join,
+    /// `round`: each client learns the manager's view, the manager and all servers tick, each open call is tried again,
+    /// each packet that is on its way is delivered, and each server works.
+    Round,
     /// `learn c`: the client learns the manager's current view.
     Learn(ClientId),
 }
@@ -89,6 +92,7 @@ impl Copied for Event {
             Event::Notice(server) => Ok(Event::Notice(*server)),
             Event::Show(server) => Ok(Event::Show(*server)),
             Event::Join => Ok(Event::Join),
+            Event::Round => Ok(Event::Round),
             Event::Learn(client) => Ok(Event::Learn(*client)),
         }
     }

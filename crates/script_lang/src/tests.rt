@@ -28,6 +28,7 @@ stop 4294967295
 notice 1
 show 10
 join
+round
 learn 4294967295
 ";
 
@@ -180,6 +181,12 @@ fn a_line_in_another_spelling_is_bad(rt: HostRuntime) -> Result<(), Fail> {
         "join join",
         "joins",
         " join",
+        "round ",
+        "round 1",
+        "round x2",
+        "round round",
+        "rounds",
+        " round",
         "learn",
         "learn 0",
         "learn 1 1",
@@ -209,6 +216,7 @@ fn a_last_line_without_its_end_is_bad(rt: HostRuntime) -> Result<(), Fail> {
         "stop 1",
         "show 1",
         "join",
+        "round",
         "learn 1",
     ] {
         let text = format!(in rt.alloc(); "cluster 1 1\nshow 1\n{line}")?;
@@ -238,7 +246,7 @@ fn what_was_read_is_printed_as_it_was(rt: HostRuntime) -> Result<(), Fail> {
     let script = read_script(alloc, EACH_KIND.as_bytes())?;
     assert_eq!(rt; script.servers, 1);
     assert_eq!(rt; script.clients, 16);
-    assert_eq!(rt; script.events.len(), 17);
+    assert_eq!(rt; script.events.len(), 18);
     let mut printed = print_first(alloc, script.servers, script.clients)?;
     for event in script.events.as_slice() {
         let copy = event.copy(alloc)?;

@@ -7,6 +7,7 @@ ghost use Rattle.kr_world.specs.ChainRows.{three_servers, three_servers_text, do
 ghost use Rattle.kr_world.specs.HeldRows.{events_released, events_released_text};
 ghost use Rattle.kr_world.specs.QueryRows.{concurrent_events, concurrent_events_text, bound_events, bound_events_text, asked_at_the_head, asked_at_the_head_text};
 ghost use Rattle.kr_world.specs.JoinRows.{tail_joins, tail_joins_text};
+ghost use Rattle.kr_world.specs.RoundRows.{two_rounds, two_rounds_text};
 ghost use Rattle.kr_world.specs.StopRows.{head_stops, head_stops_text, tail_stops, tail_stops_text, one_of_two_is_new, one_of_two_is_new_text};
 ghost use Rattle.kr_world.specs.Rows.{create_an_event, create_an_event_text, request_delivered_twice, request_delivered_twice_text, request_tried_again, request_tried_again_text, refused_steps, refused_steps_text, two_events, two_events_text};
 
@@ -37,8 +38,8 @@ pub fn events_are_numbered_in_order()
     ensures { text_of two_events ≡ two_events_text }
 {}
 
-/// A full bag refuses each call and each query of an idle client, each retry of an open call, each delivery, and each
-/// server's work and tick.
+/// A full bag refuses each call and each query of an idle client, each retry of an open call, each delivery, each
+/// server's work and tick, and each round.
 pub fn a_full_bag_refuses()
     ensures { AFullBagRefuses }
 {}
@@ -106,4 +107,10 @@ pub fn a_new_tail_tells_what_is_new()
 /// what the old one had taken.
 pub fn a_joiner_becomes_the_tail()
     ensures { text_of tail_joins ≡ tail_joins_text }
+{}
+
+/// A call that is open is tried again in each round, what is under way at its deliveries is delivered, and what this sends
+/// is delivered in the next round.
+pub fn what_is_under_way_comes_in_one_round()
+    ensures { text_of two_rounds ≡ two_rounds_text }
 {}

@@ -75,7 +75,7 @@ each_fits = All-from_recursion IsEvent each_kind_of_event (
                       tt,
                       (
                         record { server_fits = one; workers_fit = in_range 8 8 (omega arith) (omega arith) },
-                        (greatest, (one, (small 10 (omega arith) (omega arith), (tt, (greatest, tt))))),
+                        (greatest, (one, (small 10 (omega arith) (omega arith), (tt, (tt, (greatest, tt)))))),
                       ),
                     ),
                   ),
