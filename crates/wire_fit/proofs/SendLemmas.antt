@@ -20,7 +20,7 @@ use Rattle.kr_order.specs.Answer.{partial, answer_to, answers_after}
 use Rattle.kr_order.specs.View.{next_of, prev_of}
 use Rattle.kr_protocol.specs.Manager.{announces, named_by, view_packet}
 use Rattle.kr_protocol.specs.Server.{Server, acknowledged, is_at_tail, is_among, is_for_tail, next, prev, lasts, newly_applied, window_of, window, ack_of, ack_to, ack, reply_packet, joined_packet, refer_packet, answers_of, answer_packet, worked_in, work_packet}
-use Rattle.kr_world.proofs.SendLemmas.{last_among}
+use Rattle.kr_world.proofs.SendLemmas.{lasts_all, last_among}
 use Rattle.kr_wire.specs.Valid.{IsId, IsEntry, IsView, IsPacket}
 use Rattle.wire_fit.specs.Spoken.{IsSpokenQuery, IsSpokenOpen}
 use Rattle.wire_fit.proofs.ViewLemmas.{IsServerId, IfServer, named_fit, next_fits, prev_fits, viewed_fits}
@@ -101,15 +101,6 @@ pub reply_packet_fits : (id : ServerId) (done : DoneEntry) → IsServerId id →
 reply_packet_fits id done from fits =
     record { from = from; to = fits.entry.client; message = record { seq_fits = fits.entry.seq; placed_fits = fits.placed } }
 
--- of which only the last of each client's are told
-lasts_fit : (dones : List DoneEntry) → All IsDoneFit dones → All IsDoneFit (lasts dones)
-lasts_fit [] all = All-nil IsDoneFit
-lasts_fit (done ∷ more) all = by_test (lasts_fit more (All-tail IsDoneFit done more all)) (is_among done.entry.client more)
-  where
-    by_test : All IsDoneFit (lasts more) → (again : Bool) → All IsDoneFit (cond again (lasts more) (done ∷ lasts more))
-    by_test rest true = rest
-    by_test rest false = All-cons IsDoneFit done (lasts more) (All-head IsDoneFit done more all) rest
-
 -- the entries of a front of a log that can be spelt, done
 front_done : (log : List Entry) (n : ℕ) → All IsEntry log → length log ≤ most_logged → All IsDoneFit (done_of (take n log))
 front_done log n all long =
@@ -122,7 +113,7 @@ replies_fit server upto fits =
     let dones = done_of (take upto server.log) in
     let news = lasts (newly_applied server upto) in
     let all : All IsDoneFit news =
-    lasts_fit (newly_applied server upto) (All-drop IsDoneFit server.done dones (front_done server.log upto fits.log fits.long)) in
+    lasts_all IsDoneFit (newly_applied server upto) (All-drop IsDoneFit server.done dones (front_done server.log upto fits.log fits.long)) in
     All-map IsPacket (reply_packet server.id) news
     (All-weaker IsDoneFit (λ done. IsPacket (reply_packet server.id done))
     (λ done is. reply_packet_fits server.id done fits.id is) news all)

@@ -21,7 +21,7 @@ use Rattle.kr_protocol.specs.Manager.{Manager, may_promote, next_server, removes
 use Rattle.kr_protocol.specs.Server.{Server, newcomer, server_takes, server_works, server_ticks}
 use Rattle.kr_protocol.specs.Client.{Client, Hearing, begins, asks, retries, learns, unheard, client_takes}
 use Rattle.script_lang.specs.declared.script.Event.{Event}
-use Rattle.script_lang.specs.declared.script.Event.TheVariants.{Call, Query, Retry, Deliver, Lose, Tick, Work, Stop, Notice, Show, Join, Learn}
+use Rattle.script_lang.specs.declared.script.Event.TheVariants.{Call, Query, Retry, Deliver, Lose, Tick, Work, Stop, Notice, Show, Join, Round, Learn}
 use Rattle.script_lang.specs.Event as lines
 use Rattle.kr_world.specs.World.{World, server_at, client_at, packet_at, is_stopped, marked}
 use Rattle.kr_world.specs.Step.{quiet, client_sends, client_calls, client_retries, client_hears, client_asks, server_reacts, arrives_at_client, arrives_at_server, manager_tells, joined_at_manager, told_by_server, arrives_at_manager, arrives, delivers, works, ticks_at, ticks, notices, joins, learns_view, shows, act}
@@ -370,4 +370,5 @@ act_spoken world (Stop server) fits after ready =
 act_spoken world (Notice server) fits after ready = notice_spoken world (server_at world server) after ready
 act_spoken world (Show server) fits after ready = shows_spoken world server (server_at world server) ready.spoken
 act_spoken world Join fits after ready = join_spoken world after ready
+act_spoken world Round fits after ready = ready.spoken
 act_spoken world (Learn client) fits after ready = learn_spoken world client (client_at world client) refl ready

@@ -18,7 +18,7 @@ abbrev pub KeepsPackets : List Turn → Type 0
 KeepsPackets run =
     (i : ℕ) (turn : Turn) → slice_get run i ≡ Some turn → All IsReadAgain turn.outcome.after.bag
 
--- in the run of each script, of fewer events than there are numbers of queries
+-- in the run of each script, of fewer lines than there are numbers of queries
 abbrev pub RunsKeepPackets : Type 0
 RunsKeepPackets =
     (script : Script) → IsScript script → length script.events < 2 ^ 63 → KeepsPackets (run_of script)
