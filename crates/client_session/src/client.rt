@@ -2,7 +2,7 @@
 
 mod hears;
 
-ghost use Rattle.std.specs.Prelude.{◌≡◌, ◌^◌, ◌<◌, ℕ, true, false, None, [], IfOk, OnOk, OnErr};
+ghost use Rattle.std.specs.Prelude.{◌≡◌, ◌^◌, ◌<◌, ℕ, true, false, None, [], is_some, IfOk, OnOk, OnErr};
 ghost use Rattle.kr_order.specs.View.{last_member};
 ghost use Rattle.kr_protocol.specs.Client.{new_client, first_of, server_or_none, remaining, is_busy, says, asked_again, learns};
 ghost use Rattle.client_session.specs.Calls.{Begins, Asks, Retries};
@@ -308,7 +308,14 @@ impl Client {
         self.seq
     }
 
-    /// Whether a call is open.
+    /// Whether a command is open.
+    pub fn has_command(&self) -> bool
+        ensures { result ≡ is_some self.now.client.call }
+    {
+        self.call.is_some()
+    }
+
+    /// Whether a call is open, a command or a query.
     pub fn is_busy(&self) -> bool
         ensures { result ≡ is_busy self.now.client }
     {

@@ -133,12 +133,13 @@ fn nothing_is_tried_again_where_no_call_is_open(rt: HostRuntime) -> Result<(), F
 fn a_reply_closes_the_open_command(rt: HostRuntime) -> Result<(), Fail> {
     let mut client = client(rt.alloc())?;
     let _ = client.begin(Command::Create)?;
+    assert!(&rt; client.has_command());
     let placed = Placed {
         place: 4,
         reply: Reply::Created(EventId(1)),
     };
     let heard = client.take(&said(TAIL, Message::Replied { seq: 1, placed }))?;
-    assert!(&rt; heard.told.is_some() && !client.is_busy());
+    assert!(&rt; heard.told.is_some() && !client.has_command() && !client.is_busy());
     assert_eq!(&rt; (client.begun(), client.seen()), (1, 4));
     Ok(())
 }
@@ -148,6 +149,7 @@ fn what_is_unsure_is_asked_of_the_last_server(rt: HostRuntime) -> Result<(), Fai
     let alloc = rt.alloc();
     let mut client = client(alloc)?;
     assert!(&rt; is_ask(&client.ask(&pairs(alloc)?, HEAD)?.packets, HEAD, 1));
+    assert!(&rt; client.is_busy() && !client.has_command());
     let unsure = client.take(&answered(alloc, HEAD, 1, Answer::Unsure)?)?;
     assert!(&rt; is_ask(&unsure.packets, TAIL, 2));
     // the same again, a same of two events, one that is unsure again, and an older view change nothing
