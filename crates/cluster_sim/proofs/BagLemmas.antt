@@ -1,10 +1,10 @@
 -- Packets and their spellings in a bag.
-use Rattle.std.proofs.Common.{◌≡◌, ℕ, ◌+◌, ◌-◌, ◌^◌, ◌<◌, ◌≤◌, min, Bool, true, false, cond, ◌||◌, eqb, leb, lit≤, inl, inr, List, [], ◌∷◌, ◌++◌, length, take, drop, get_or, refl, sym, ap, ◌∙◌, subst, append_assoc, arith}
-use Rattle.std.specs.Prelude.{All, map, sum_by, Option, None, Some, Result, Ok, Err, slice_get}
+use Rattle.std.proofs.Common.{◌≡◌, ℕ, ◌+◌, ◌-◌, ◌^◌, ◌<◌, ◌≤◌, min, false, cond, ◌||◌, leb, lit≤, inl, inr, List, [], ◌∷◌, ◌++◌, length, take, get_or, refl, sym, ap, ◌∙◌, subst, append_assoc, arith}
+use Rattle.std.specs.Prelude.{All, map, sum_by, Option, None, Some, slice_get}
 use Rattle.std.specs.Option.{option_map}
 use Rattle.std.proofs.lemmas.Bool.{ne_eqb, cases_lt, le-leb, lt-leb}
-use Rattle.std.proofs.lemmas.List.{append-nil, map-append, map_push, length-append, length-map, drop_at, take_more}
-use Rattle.std.proofs.lemmas.List.Elements.{All-nil, All-cons, All-head, All-tail}
+use Rattle.std.proofs.lemmas.List.{append-nil, map-append, map_push, length-append, length-map, take_more}
+use Rattle.std.proofs.lemmas.List.Elements.{All-head, All-tail}
 use Rattle.std.proofs.lemmas.List.Sums.{sum_by-cons}
 use Rattle.std.proofs.lemmas.Option.{slice_get-map}
 use Rattle.kr_order.specs.declared.message.Node.{Node}
@@ -45,12 +45,7 @@ bytes_are (bytes ∷ spellings) spelt =
 pub none_fresh : (packets : List Packet) → IsFresh packets []
 none_fresh packets = record { front = packets; are = sym (append-nil packets) }
 
--- the packets of the step are the last ones
-pub fresh_are : (packets fresh : List Packet) → IsFresh packets fresh → fresh ≡ drop (length packets - length fresh) packets
-fresh_are packets fresh is =
-    let count : length is.front ≡ length packets - length fresh = omega (arith, ap length is.are, length-append is.front fresh) in
-    sym (ap (drop (length packets - length fresh)) is.are ∙ drop_at is.front fresh (length packets - length fresh) count)
-
+-- the packets of the step are not more than all
 pub fresh_few : (packets fresh : List Packet) → IsFresh packets fresh → length fresh ≤ length packets
 fresh_few packets fresh is = omega (arith, ap length is.are, length-append is.front fresh)
 
@@ -132,10 +127,6 @@ has_more old mid new packets i packet within is has sent =
       delivered_are = ap (λ ms. ms ++ false ∷ []) has.delivered_are ∙ append_assoc old.delivered (map (λ (p : Packet). false) front) (false ∷ []) ∙ ap (λ ms. old.delivered ++ ms) (sym (map_push (λ (p : Packet). false) front packet));
     } in
     subst (λ n. HasPackets old n (take (i + 1) packets)) (sym sent) (subst (HasPackets old (sent_after mid (spelling packet))) (sym next) its)
-
--- one packet that fits
-pub one_fit : (packet : Packet) → IsPacket packet → All IsPacket (packet ∷ [])
-one_fit packet fit = All-cons IsPacket packet [] fit (All-nil IsPacket)
 
 -- a bag whose step has sent nothing
 pub begun_so : (net : Sent) (fresh none : List Packet) (bag : BagStanding) → seen net fresh ≡ bag → none ≡ [] → seen net none ≡ record bag { before = length bag.packets }

@@ -1,5 +1,5 @@
 -- What a step sends has spellings where all packets do after it.
-use Rattle.std.proofs.Common.{◌≡◌, ◌-◌, List, [], ◌∷◌, ◌++◌, sym, ap, ◌∙◌, subst}
+use Rattle.std.proofs.Common.{◌≡◌, ◌-◌, List, [], ◌∷◌, ◌++◌, sym, subst}
 use Rattle.std.specs.Prelude.{All, slice_get, Some}
 use Rattle.std.proofs.lemmas.List.Elements.{All-head, All-tail}
 use Rattle.kr_order.specs.declared.ids.ClientId.{ClientId}
@@ -11,7 +11,7 @@ use Rattle.kr_order.specs.declared.message.Node.TheVariants.{Server}
 use Rattle.kr_order.specs.declared.message.Message.{Message}
 use Rattle.kr_order.specs.declared.message.Message.TheVariants.{Joined}
 use Rattle.kr_order.specs.declared.message.Packet.{Packet}
-use Rattle.kr_protocol.specs.Client.{Client, Hearing, begins, asks, retries, client_takes}
+use Rattle.kr_protocol.specs.Client.{begins, asks, retries, client_takes}
 use Rattle.kr_protocol.specs.Server.{server_takes, server_works, server_ticks}
 use Rattle.kr_wire.specs.Valid.{IsPacket}
 use Rattle.client_session.specs.declared.client.Heard.{Heard}

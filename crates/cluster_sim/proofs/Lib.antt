@@ -1,8 +1,9 @@
 mod BagLemmas
 mod FitLemmas
-mod PartsLemmas
+pub mod PartsLemmas
 mod RefusalLemmas
-mod ClusterLemmas
+pub mod ClusterLemmas
+mod RoundLemmas
 mod ViewLemmas
 mod LinesLemmas
 pub mod StartLemmas

@@ -48,6 +48,6 @@ done_lines-at i dones done within is =
     done_lines-more i dones done within ∙ ap (λ d. done_lines (take i dones) ++ line (done_text d)) (sym is)
 
 -- a piece behind what was written
-pub written_more : (old out new piece front lines : List ℕ) → out ≡ old ++ front → new ≡ out ++ piece → lines ≡ front ++ piece → new ≡ old ++ lines
+pub written_more : {item : Type 0} (old out new piece front lines : List item) → out ≡ old ++ front → new ≡ out ++ piece → lines ≡ front ++ piece → new ≡ old ++ lines
 written_more old out new piece front lines so_far now is =
     now ∙ ap (λ o. o ++ piece) so_far ∙ append_assoc old front piece ∙ ap (λ l. old ++ l) (sym is)

@@ -1,5 +1,5 @@
 -- What a change of the parts makes of their world.
-use Rattle.std.proofs.Common.{zero, suc, ◌≡◌, ℕ, ◌+◌, ◌-◌, ◌^◌, ◌<◌, ◌≤◌, Bool, true, false, List, [], ◌∷◌, ◌++◌, length, drop, refl, sym, ap, ◌∙◌, subst, arith, inl, inr}
+use Rattle.std.proofs.Common.{zero, suc, ◌≡◌, ℕ, ◌+◌, ◌-◌, ◌^◌, ◌<◌, ◌≤◌, Bool, false, List, [], ◌∷◌, ◌++◌, length, drop, refl, sym, ap, ◌∙◌, subst, arith, inl, inr}
 use Rattle.std.specs.Prelude.{Option, None, Some, Result, Ok, Err, IfOk, map, slice_get, slice_set, All}
 use Rattle.std.specs.Result.{OnOk}
 use Rattle.std.specs.Option.{option_map}
@@ -44,6 +44,8 @@ use Rattle.kr_order.specs.declared.message.Node.{Node}
 use Rattle.kr_order.specs.declared.message.Node.TheVariants.{Server as AtServer}
 use Rattle.kr_world.proofs.SoundLemmas.{takes_within, work_within, tick_within, worlds_sound}
 use Rattle.kr_world.proofs.BagLemmas.{delivered_sound}
+use Rattle.kr_world.proofs.GrowLemmas.{step_grows, settled_stay}
+use Rattle.kr_world.specs.Round.{AreSettled}
 use Rattle.kr_world.proofs.StepLemmas.{at_index, may_turn, may_deliver}
 use Rattle.kr_world.proofs.SeatLemmas.{IsSeated, seated, own_of}
 use Rattle.kr_world.proofs.BoundsLemmas.{IsWithinBounds}
@@ -51,7 +53,7 @@ use Rattle.kr_world.proofs.ReactionLemmas.{HistoryGrows, grows_or_stays}
 use Rattle.cluster_sim.specs.BagStanding.{BagStanding, IsNumbered, IsSent}
 use Rattle.cluster_sim.specs.declared.parts.Parts.{Parts}
 use Rattle.cluster_sim.specs.declared.parts.Noted.{Noted}
-use Rattle.cluster_sim.specs.Parts.{history_of, world_of, IsWhole, IsAtRest, IsNotedOf, noted, Makes}
+use Rattle.cluster_sim.specs.Parts.{history_of, world_of, IsWhole, IsAtRest, IsReady, IsNotedOf, noted, Makes}
 
 -- the node of a client in the parts is that of their world
 pub client_there : (parts : Parts) (client : ClientId) (node : ClientStanding) → slice_get parts.clients.items (client.0 - 1) ≡ Some node → client_at (world_of parts) client ≡ Some node.client
@@ -390,6 +392,19 @@ begun_rest parts bag is rest =
       spoken = rest.spoken;
     })
 
+pub begun_ready : (parts : Parts) (bag : BagStanding) (settled : ℕ) → bag ≡ record parts.bag { before = length parts.bag.packets } → IsReady parts settled → IsReady (record parts { bag = bag }) settled
+begun_ready parts bag settled is ready =
+    let its : AreSettled (world_of (record parts { bag = record parts.bag { before = length parts.bag.packets } })) settled = ready.settled in
+    record {
+      rest = begun_rest parts bag is ready.rest;
+      callers = ready.callers;
+      settled = subst (λ b. AreSettled (world_of (record parts { bag = b })) settled) (sym is) its;
+    }
+
+-- as many clients as in the world
+pub callers_counted : (parts : Parts) → length parts.clients.items ≡ length (world_of parts).clients
+callers_counted parts = sym (length-map parts.clients.items (λ (c : ClientStanding). c.client))
+
 -- a step leaves parts at rest
 pub rest_after : (old new : Parts) (event : Event) (before : ℕ) (noting : Noted) → IsAtRest old → HaveBegun (2 ^ 63 - 1) (world_of old).clients → IsEvent event → Makes (step (world_of old) event) before new noting → IsAtRest new
 rest_after old new event before noting rest few fits made =
@@ -401,6 +416,17 @@ rest_after old new event before noting rest few fits made =
         sound = subst IsSound (sym made.after) (worlds_sound.later (world_of old) event rest.whole.sound);
       };
       spoken = subst IsSpoken (sym made.after) (worlds_spoken.later (world_of old) event rest.whole.sound few fits rest.spoken);
+    }
+
+-- no step changes how many clients there are, and what is settled stays so
+pub ready_after : (old new : Parts) (settled : ℕ) (event : Event) (before : ℕ) (noting : Noted) → IsReady old settled → HaveBegun (2 ^ 63 - 1) (world_of old).clients → IsEvent event → Makes (step (world_of old) event) before new noting → IsReady new settled
+ready_after old new settled event before noting ready few fits made =
+    let grows = step_grows (world_of old) event in
+    let clients : length (world_of new).clients ≡ length (world_of old).clients = ap (λ (w : World). length w.clients) made.after ∙ grows.clients in
+    record {
+      rest = rest_after old new event before noting ready.rest few fits made;
+      callers = omega (arith, clients, callers_counted new, callers_counted old, ready.callers);
+      settled = subst (λ w. AreSettled w settled) (sym made.after) (settled_stay (world_of old) event settled ready.settled);
     }
 
 -- the packets of a step that is not refused have spellings

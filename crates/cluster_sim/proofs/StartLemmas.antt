@@ -1,5 +1,5 @@
 -- The nodes that a cluster begins with, one more of them.
-use Rattle.std.proofs.Common.{suc, ◌≡◌, ℕ, ◌+◌, ◌≤◌, Bool, false, List, [], ◌∷◌, ◌++◌, map, refl, sym, ap, ◌∙◌, subst, arith}
+use Rattle.std.proofs.Common.{◌≡◌, ℕ, ◌+◌, ◌≤◌, Bool, false, List, [], ◌∷◌, ◌++◌, length, map, refl, sym, ap, ◌∙◌, subst, arith}
 use Rattle.std.specs.Prelude.{All}
 use Rattle.std.proofs.lemmas.List.{map-append}
 use Rattle.std.proofs.lemmas.List.Elements.{All-map}
@@ -14,18 +14,18 @@ use Rattle.client_session.specs.ClientStanding.{ClientStanding}
 use Rattle.kr_world.specs.World.{World, first_world}
 use Rattle.kr_world.specs.Sound.{IsSound}
 use Rattle.kr_world.proofs.ListFacts.{all_of}
+use Rattle.kr_world.proofs.RoundLoopLemmas.{numbers_to-next}
 use Rattle.kr_world.proofs.SoundLemmas.{worlds_sound}
+use Rattle.kr_world.proofs.ViewLemmas.{length-made}
 use Rattle.cluster_sim.specs.declared.parts.Parts.{Parts}
 use Rattle.kr_order.specs.declared.history.Entry.{Entry}
 use Rattle.kr_order.specs.declared.message.Packet.{Packet}
 use Rattle.cluster_sim.specs.BagStanding.{BagStanding}
-use Rattle.cluster_sim.specs.Parts.{history_of, world_of, IsWhole, IsAtRest}
+use Rattle.cluster_sim.specs.Parts.{history_of, world_of, IsWhole, IsAtRest, IsReady}
 use Rattle.wire_fit.specs.Spoken.{IsSpoken}
 use Rattle.wire_fit.proofs.SpokenLemmas.{worlds_spoken}
 use Rattle.script_lang.specs.Script.{IsSize}
-
-numbers_to-next : (n : ℕ) → numbers_to (n + 1) ≡ numbers_to n ++ (n + 1) ∷ []
-numbers_to-next n = let same : n + 1 ≡ suc n = omega arith in ap numbers_to same
+use Rattle.cluster_sim.proofs.RoundLemmas.{none_settled}
 
 pub one_more : {X : Type 0} (f : ℕ → X) (n : ℕ) (xs : List X) → xs ≡ map f (numbers_to n) → xs ++ f (n + 1) ∷ [] ≡ map f (numbers_to (n + 1))
 one_more f n xs is =
@@ -79,4 +79,15 @@ started_rest servers clients parts size start =
     record {
       whole = started_whole servers clients parts size.servers_fit.low size.servers_fit.high start;
       spoken = subst IsSpoken (sym (started servers clients parts start)) (worlds_spoken.first servers clients size);
+    }
+
+-- it has few clients, and no packets that a round could deliver
+pub started_ready : (servers clients : ℕ) (parts : Parts) → IsSize servers clients → IsStart servers clients parts → IsReady parts 0
+started_ready servers clients parts size start =
+    let f : ℕ → ClientStanding = λ m. record { client = new_client (first_view servers) (record { 0 = m }); failed = false } in
+    let count : length parts.clients.items ≡ clients = ap length start.callers ∙ length-made f clients in
+    record {
+      rest = started_rest servers clients parts size start;
+      callers = omega (arith, count, size.clients_fit.high);
+      settled = none_settled (world_of parts);
     }

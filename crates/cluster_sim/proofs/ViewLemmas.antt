@@ -225,19 +225,3 @@ pub member_as : (parts : Parts) (from joiner : ServerId) (manager : Manager) →
     → joined_at_manager (world_of parts) from joiner ≡ manager_tells (world_of (record parts { manager = manager })) manager
 member_as parts from joiner manager may is =
     ap (λ test. cond test (manager_tells (world_of parts) (promotes parts.manager joiner)) (quiet (world_of parts))) may ∙ ap (manager_tells (world_of parts)) (sym is)
-
--- and where it is none
-pub none_makes : (parts : Parts) (from joiner : ServerId) → IsWhole parts → may_promote parts.manager.current from joiner ≡ false
-    → Makes (joined_at_manager (world_of parts) from joiner) parts.bag.before parts nothing_noted
-none_makes parts from joiner whole may =
-    subst (λ test. Makes (cond test (manager_tells (world_of parts) (promotes parts.manager joiner)) (quiet (world_of parts))) parts.bag.before parts nothing_noted) (sym may) (record {
-      after = refl;
-      told = refl;
-      parts = refl;
-      shown = refl;
-      refused = refl;
-      servers = whole.servers;
-      clients = whole.clients;
-      journal = whole.journal;
-      since = refl;
-    })

@@ -1,5 +1,5 @@
 -- Which world the parts of a cluster stand for.
-use Rattle.std.specs.Prelude.{◌≡◌, ℕ, ◌-◌, List, [], ◌∷◌, ◌++◌, length, drop, map, false, All, Option, None, Some, if◌then◌else◌}
+use Rattle.std.specs.Prelude.{◌≡◌, ◌≤◌, ℕ, ◌-◌, List, [], ◌∷◌, ◌++◌, length, drop, map, false, All, Option, None, Some, if◌then◌else◌}
 use Rattle.kr_order.specs.declared.ids.ClientId.{ClientId}
 use Rattle.kr_order.specs.declared.answer.ToldPart.{ToldPart}
 use Rattle.kr_order.specs.declared.history.Entry.{Entry}
@@ -13,6 +13,8 @@ use Rattle.kr_world.specs.declared.refusal.Refusal.TheVariants.{Stopped, Lost}
 use Rattle.kr_world.specs.Step.{Told, Part, Outcome, told_to, parts_to, if_full}
 use Rattle.kr_world.specs.Lines.{grown_line, told_lines, part_lines, shown_line, refused_line, packet_lines}
 use Rattle.kr_world.specs.Sound.{IsSound}
+use Rattle.kr_world.specs.Round.{AreSettled}
+use Rattle.script_lang.specs.declared.script.Event.{Event}
 use Rattle.wire_fit.specs.Spoken.{IsSpoken}
 use Rattle.cluster_sim.specs.declared.parts.Parts.{Parts}
 use Rattle.cluster_sim.specs.declared.parts.Telling.{Telling}
@@ -52,6 +54,17 @@ pub record IsWhole (parts : Parts) : Type 0 where
 pub record IsAtRest (parts : Parts) : Type 0 where
   pub whole : IsWhole parts
   pub spoken : IsSpoken (world_of parts)
+
+-- between two steps no cluster has more than 16 clients, and of its packets the first so many are settled
+pub record IsReady (parts : Parts) (count : ℕ) : Type 0 where
+  pub rest : IsAtRest parts
+  pub callers : length parts.clients.items ≤ 16
+  pub settled : AreSettled (world_of parts) count
+
+-- the event, if there is one
+abbrev pub event_in : Option Event → List Event
+event_in None = []
+event_in (Some event) = event ∷ []
 
 abbrev pub told_in : Option Telling → List Told
 told_in None = []

@@ -110,7 +110,7 @@ impl Bag {
         ensures { IfOk result (λ packet. slice_get self.now.packets (k - 1) ≡ Some packet) }
     {
         let Some(bytes) = self.net.get(k) else {
-            return Err(NoMemory);
+            unreachable!()
         };
         match decode(self.alloc, bytes) {
             Ok(packet) => Ok(packet),
@@ -125,6 +125,14 @@ impl Bag {
         ensures { result ≡ is_marked self.now.lost k }
     {
         self.net.is_lost(k)
+    }
+
+    /// Whether packet k was delivered.
+    pub fn is_delivered(&self, k: u64) -> bool
+        requires { IsNumbered self.now k }
+        ensures { result ≡ is_marked self.now.delivered k }
+    {
+        self.net.is_delivered(k)
     }
 
     /// Marks packet k as lost.

@@ -1,15 +1,17 @@
 //! A whole cluster in one process, stepped by the events of a script.
 //!
-//! Contracts see a `Cluster` as the world of the definitions, and whether it has failed. A step's contract is
-//! the world's step and its lines. A cluster fails where a step finds no memory; each later call that can
+//! Contracts see a `Cluster` as the world of the definitions, how many pairs were told as before, and whether it has
+//! failed. A step's contract is the world's step and its lines. A cluster fails where a step finds no memory; each later call that can
 //! answer `NoMemory` then does.
 #![tactic(auto)]
 
 mod bag;
 mod cluster;
+mod count;
 mod lines;
 mod parts;
 mod refusals;
+mod round;
 mod start;
 mod step;
 

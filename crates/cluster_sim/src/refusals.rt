@@ -46,8 +46,8 @@ fn call_refusal(parts: &Parts, client: ClientId) -> Option<Refusal>
     }
 }
 
-// Whether the server has stopped.
-fn is_stopped(parts: &Parts, server: ServerId) -> bool
+/// Whether the server has stopped.
+pub fn is_stopped(parts: &Parts, server: ServerId) -> bool
     ensures { result ≡ is_stopped (world_of parts.now) server }
 {
     match parts.stopped.get(index_of(u64::from(server.0))) {
@@ -170,8 +170,8 @@ fn notice_refusal(parts: &Parts, server: ServerId) -> Option<Refusal>
     }
 }
 
-// Whether the node has stopped; only a server may have.
-fn has_stopped(parts: &Parts, node: Node) -> bool
+/// Whether the node has stopped; only a server may have.
+pub fn has_stopped(parts: &Parts, node: Node) -> bool
     ensures { result ≡ has_stopped (world_of parts.now) node }
 {
     match node {
@@ -277,6 +277,7 @@ pub fn refusal(parts: &Parts, event: &Event) -> Option<Refusal>
         Event::Notice(server) => notice_refusal(parts, *server),
         Event::Show(server) => show_refusal(parts, *server),
         Event::Join => join_refusal(parts),
+        Event::Round => if_full(parts),
         Event::Learn(client) => learn_refusal(parts, *client),
     }
 }

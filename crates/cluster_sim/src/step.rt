@@ -49,6 +49,7 @@ fn act<R: Threads + Sync>(
         Event::Notice(server) => views::notice(parts, *server),
         Event::Show(server) => turns::show(parts, *server),
         Event::Join => views::join(alloc, parts),
+        Event::Round => Ok(Noted::nothing()),
         Event::Learn(client) => views::learn(parts, *client),
     }
 }

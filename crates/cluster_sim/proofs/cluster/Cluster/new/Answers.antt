@@ -6,7 +6,7 @@ use Rattle.kr_protocol.specs.Client.{new_client}
 use Rattle.kr_world.specs.World.{World}
 use Rattle.cluster_sim.specs.declared.parts.Parts.{Parts}
 use Rattle.cluster_sim.specs.ClusterStanding.{ClusterStanding}
-use Rattle.cluster_sim.proofs.StartLemmas.{IsStart, started, started_rest}
+use Rattle.cluster_sim.proofs.StartLemmas.{IsStart, started, started_ready}
 use Rattle.cluster_sim.proofs.cluster.Cluster.new.Goals as goal
 
 -- the parts that a cluster begins with
@@ -26,10 +26,10 @@ start_of c = record {
 
 pub invariant_of-result : goal.invariant_of-result
 unfolding parts_of
-invariant_of-result c = λ _. started_rest c.args.servers c.args.clients (parts_of c) c.requires (start_of c)
+invariant_of-result c = λ _. started_ready c.args.servers c.args.clients (parts_of c) c.requires (start_of c)
 
 pub returns : goal.returns
 unfolding parts_of
 returns c =
-    let f : World → ClusterStanding = λ w. record { world = w; failed = false } in
+    let f : World → ClusterStanding = λ w. record { world = w; failed = false; befores = 0 } in
     ap f (started c.args.servers c.args.clients (parts_of c) (start_of c))

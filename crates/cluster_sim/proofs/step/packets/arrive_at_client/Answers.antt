@@ -1,8 +1,7 @@
 use Rattle.std.proofs.Common.{◌≡◌, ◌-◌, ◌<◌, length, get_or, refl, ap, ◌∙◌, arith}
-use Rattle.std.specs.Prelude.{slice_get, slice_set, Some}
+use Rattle.std.specs.Prelude.{slice_set}
 use Rattle.std.specs.Vec.{with_item}
 use Rattle.std.proofs.lemmas.Option.{slice_get_read}
-use Rattle.client_session.specs.ClientStanding.{ClientStanding}
 use Rattle.kr_world.specs.World.{client_at}
 use Rattle.kr_world.specs.Step.{arrives_at_client}
 use Rattle.cluster_sim.specs.BagStanding.{IsSent}

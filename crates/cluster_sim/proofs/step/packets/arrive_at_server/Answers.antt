@@ -7,7 +7,7 @@ use Rattle.chain_server.specs.ServerStanding.{ServerStanding}
 use Rattle.kr_world.specs.World.{server_at}
 use Rattle.kr_world.specs.Step.{arrives_at_server}
 use Rattle.cluster_sim.specs.Parts.{world_of, noted, Makes}
-use Rattle.cluster_sim.proofs.PartsLemmas.{IsSettled, nothing_noted, server_took}
+use Rattle.cluster_sim.proofs.PartsLemmas.{IsSettled, server_took}
 use Rattle.cluster_sim.proofs.FitLemmas.{taken_fit}
 use Rattle.cluster_sim.proofs.step.packets.arrive_at_server.Goals as goal
 
