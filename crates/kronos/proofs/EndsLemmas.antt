@@ -1,8 +1,10 @@
 -- How the ends of the program follow from those of its parts, and that a served call is done.
-use Rattle.std.proofs.Common.{◌≡◌, ℕ, ◌≤◌, ◌⊎◌, inl, inr, List, ◌++◌, length, refl, ap, ◌∙◌, subst, arith}
-use Rattle.std.specs.Prelude.{Option, None, Some, Result, Ok, Err}
+use Rattle.std.proofs.Common.{◌≡◌, ℕ, ◌≤◌, ◌⊎◌, inl, inr, List, ◌++◌, [], ◌∷◌, length, refl, sym, ap, ◌∙◌, subst, arith}
+use Rattle.std.specs.Prelude.{codes, Option, None, Some, Result, Ok, Err}
+use Rattle.std.specs.Fmt.{decimal}
 use Rattle.std.specs.Io.KnownBytes.{Consumes, IsAtEnd}
 use Rattle.std.proofs.lemmas.List.{length-append, append-nil}
+use Rattle.kr_text.specs.Causes.{Rose}
 use Rattle.kr_text.specs.Reads.{GaveAll, GaveSome}
 use Rattle.script_lang.specs.Script.{Parses}
 use Rattle.script_lang.specs.Laws.{BadLinesAreInNoScript}
@@ -10,7 +12,7 @@ use Rattle.kronos.specs.declared.exit.Exit.{Exit}
 use Rattle.kronos.specs.declared.exit.Exit.TheVariants.{Done, Usage, BadLine, TooLong, ReadFault, WriteFault, NoMemory}
 use Rattle.kronos.specs.declared.run.Stop.{Stop}
 use Rattle.kronos.specs.declared.run.Stop.TheVariants.{Write, Memory}
-use Rattle.kronos.specs.Ends.{Outside, HasRead, Ends, EndsOnBytes, IsRefusalOf, HasBadLine, IsTooLong, IsServed, input_limit}
+use Rattle.kronos.specs.Ends.{Outside, AskForScript, AskForLoad, HasRead, Ends, EndsOnBytes, IsLoadServed, FailedToWrite, IsRefusalOf, HasBadLine, IsTooLong, IsServed, input_limit}
 use Rattle.kronos.specs.Runs.{IsWritten, exit_after}
 
 some_of_all : (left left' : Option (List ℕ)) (bytes : List ℕ) → GaveAll input_limit left left' bytes → GaveSome input_limit left left'
@@ -19,16 +21,16 @@ some_of_all left left' bytes all = record { bytes = bytes; taken = all.taken; fi
 -- an end after the whole input was read
 pub ends_on_bytes : (exit : Exit) (words : List (List ℕ)) (before after : Outside) (bytes : List ℕ) → HasRead words before after bytes → EndsOnBytes exit bytes before.held after.held before.writes after.writes → Ends exit words before after
 ends_on_bytes Done words before after bytes read ran =
-    record { bytes = bytes; text = ran.0; read = read; run = ran.1; written = ran.2; calm = ran.3 }
+    inl (record { bytes = bytes; text = ran.0; read = read; run = ran.1; written = ran.2; calm = ran.3 })
 ends_on_bytes Usage words before after bytes read never = absurd never
 ends_on_bytes (BadLine n) words before after bytes read refused =
     record { bytes = bytes; text = refused.0; read = read; refused = refused.1; written = refused.2; calm = refused.3 }
 ends_on_bytes TooLong words before after bytes read never = absurd never
 ends_on_bytes ReadFault words before after bytes read never = absurd never
 ends_on_bytes WriteFault words before after bytes read took =
-    inr (took.0, record { bytes = bytes; read = read; due = took.1 }, took.2)
+    inl (inr (took.0, record { bytes = bytes; read = read; due = took.1 }, took.2))
 ends_on_bytes NoMemory words before after bytes read lacks =
-    record {
+    inl (record {
       form = read.form;
       given = some_of_all before.left after.left bytes read.whole;
       calm = record { reads = read.calm; writes = lacks.0 };
@@ -36,7 +38,7 @@ ends_on_bytes NoMemory words before after bytes read lacks =
         | inl kept ↦ inl kept
         | inr front ↦ inr (front.0, record { bytes = bytes; read = read; due = front.1 }, front.2)
       ];
-    }
+    })
 
 -- what a written text says of the end: the refusal of a bad line
 pub refusal_ends : {U : Type 0} (result : Result U Stop) (n : ℕ) (bytes text : List ℕ) (held held' : Option (List ℕ)) (faults faults' : ℕ) → IsRefusalOf bytes n text → IsWritten text result held held' faults faults' → EndsOnBytes (exit_after result (BadLine n)) bytes held held' faults faults'
@@ -69,13 +71,35 @@ not_too_long words before after served long =
     let over = long.over.over in
     absurd (omega (arith, no_more_given served.bytes after.left long.over.bytes taken))
 
+-- where the sink counts no fault, no write of a script's run failed
+no_fault : (words : List (List ℕ)) (before after : Outside) → (Rose before.writes after.writes → ⊥) → FailedToWrite words before after → ⊥
+no_fault words before after calm failed =
+    elim failed [ inl usage ↦ calm usage.1.rose | inr due ↦ calm due.2.rose ]
+
 -- a call that is served is done, or finds no memory
 pub served_is_done : BadLinesAreInNoScript → (exit : Exit) (words : List (List ℕ)) (before after : Outside) → Ends exit words before after → IsServed words before after → (exit ≡ Done) ⊎ (exit ≡ NoMemory)
 served_is_done law Done words before after ends served = inl refl
-served_is_done law Usage words before after ends served = absurd (ends.none.no_form served.form)
+served_is_done law Usage words before after ends served = absurd (ends.none.no_form (inl served.form))
 served_is_done law (BadLine n) words before after ends served = absurd (no_bad_line law n words before after served ends)
 served_is_done law TooLong words before after ends served = absurd (not_too_long words before after served ends)
 served_is_done law ReadFault words before after ends served = absurd (served.read ends.rose)
 served_is_done law WriteFault words before after ends served =
-    elim ends [ inl usage ↦ absurd (served.written usage.1.rose) | inr due ↦ absurd (served.written due.2.rose) ]
+    absurd (elim ends [ inl failed ↦ no_fault words before after served.written failed | inr load ↦ served.written load.took.rose ])
 served_is_done law NoMemory words before after ends served = inr refl
+
+-- words for a load are none for a script
+not_both : (rounds : ℕ) (words : List (List ℕ)) → AskForLoad rounds words → AskForScript words → ⊥
+not_both rounds words load script =
+    let both : codes "load" ∷ decimal rounds ∷ [] ≡ codes "script" ∷ [] = sym load.words_are ∙ script in
+    cc
+
+-- so is a load that is served
+pub load_is_done : (exit : Exit) (words : List (List ℕ)) (before after : Outside) → Ends exit words before after → IsLoadServed words before after → (exit ≡ Done) ⊎ (exit ≡ NoMemory)
+load_is_done Done words before after ends served = inl refl
+load_is_done Usage words before after ends served = absurd (ends.none.no_form (inr (served.rounds, served.form)))
+load_is_done (BadLine n) words before after ends served = absurd (not_both served.rounds words served.form ends.read.form)
+load_is_done TooLong words before after ends served = absurd (not_both served.rounds words served.form ends.form)
+load_is_done ReadFault words before after ends served = absurd (not_both served.rounds words served.form ends.form)
+load_is_done WriteFault words before after ends served =
+    absurd (elim ends [ inl failed ↦ no_fault words before after served.written failed | inr load ↦ served.written load.took.rose ])
+load_is_done NoMemory words before after ends served = inr refl

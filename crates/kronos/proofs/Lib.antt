@@ -1,2 +1,4 @@
 mod RunLemmas
 mod EndsLemmas
+mod LoadLemmas
+mod FormLemmas

@@ -13,12 +13,15 @@ use Rattle.script_lang.specs.declared.script.Event.{Event}
 use Rattle.script_lang.specs.declared.script.Script.{Script}
 use Rattle.script_lang.specs.Line.{line}
 use Rattle.kr_world.specs.World.{World, first_world}
-use Rattle.kr_world.specs.Step.{step}
 use Rattle.kr_world.specs.Sound.{HaveBegun}
-use Rattle.kr_world.proofs.CountLemmas.{queries_counted}
 use Rattle.kr_world.specs.Lines.{step_lines, done_lines, end_lines}
-use Rattle.kr_world.specs.Run.{Turn, run_from, text_from, text_of}
+use Rattle.kr_world.specs.Round.{plain_events, after_line, steps_of}
+use Rattle.kr_world.specs.Run.{Turn, run_from, run_of, lines_of, text_from, text_of}
+use Rattle.kr_world.proofs.RoundLemmas.{text_of-line}
+use Rattle.kr_world.proofs.RoundCountLemmas.{line_counted}
 use Rattle.cluster_sim.specs.ClusterStanding.{ClusterStanding}
+use Rattle.cluster_sim.specs.Steps.{DoesSteps}
+use Rattle.cluster_sim.proofs.ClusterLemmas.{after_steps-world}
 use Rattle.kronos.specs.Ends.{TookFront}
 use Rattle.kronos.specs.Runs.{text_on, DoesTurn, Turns, RanEvents, RunsEvents, IsWritten}
 use Rattle.kronos.specs.declared.run.Stop.{Stop}
@@ -89,7 +92,27 @@ text_from-some world [] = end_lines-some world.history
 text_from-some world (turn ∷ turns) =
     omega (arith, length-append (step_lines turn.before turn.outcome) (text_from turn.outcome.after turns), text_from-some turn.outcome.after turns)
 
--- after the first i events: this was written, this is gathered, the cluster stands so, and the rest of the text is to come
+-- a line was done, and what is printed of it is gathered
+pub line_gathered : (old new : ClusterStanding) (event : Event) (gathered gathered' : List ℕ) (held : Option (List ℕ)) → DoesSteps old (plain_events old.world event) gathered new gathered' → DoesTurn old event gathered new gathered' held held
+line_gathered old new event gathered gathered' held does =
+    record {
+      after = ap (λ (c : ClusterStanding). c.world) does.stepped ∙ after_steps-world old (plain_events old.world event);
+      written = [];
+      taken = Appends-nil held;
+      lines = sym does.lines;
+    }
+
+-- and then all that was gathered was written
+pub all_written : (old new : ClusterStanding) (event : Event) (gathered gathered' piece left : List ℕ) (held held' : Option (List ℕ)) → DoesTurn old event gathered new gathered' held held → piece ≡ gathered ++ lines_of old.world event → left ≡ [] → Appends held held' piece → DoesTurn old event gathered new left held held'
+all_written old new event gathered gathered' piece left held held' turn is none taken =
+    record {
+      after = turn.after;
+      written = piece;
+      taken = taken;
+      lines = sym is ∙ sym (append-nil piece) ∙ ap (λ l. piece ++ l) (sym none);
+    }
+
+-- after the first i lines: this was written, this is gathered, the cluster stands so, and the rest of the text is to come
 pub record IsPartWay (first : ClusterStanding) (events : List Event) (i : ℕ) (cluster : ClusterStanding) (gathered : List ℕ) (held held' : Option (List ℕ)) (faults faults' : ℕ) : Type 0 where
   pub written : List ℕ
   pub taken : Appends held held' written
@@ -97,25 +120,27 @@ pub record IsPartWay (first : ClusterStanding) (events : List Event) (i : ℕ) (
   pub calm : faults' ≡ faults
   pub begun : HaveBegun i cluster.world.clients
 
--- the text of the rest begins with the lines of the next step
-text_on-step : (events : List Event) (i : ℕ) (world : World) (d : Event) → i < length events → text_on world (drop i events) ≡ step_lines world (step world (get_or events i d)) ++ text_on (step world (get_or events i d)).after (drop (i + 1) events)
-text_on-step events i world d within =
-    let front : drop i events ≡ get_or events i d ∷ drop (i + 1) events = rw (add-one, drop-cons events i d) refl in
-    ap (text_on world) front
+-- the text of the rest begins with what is printed of the next line
+text_on-line : (events : List Event) (i : ℕ) (world : World) (d : Event) → i < length events → text_on world (drop i events) ≡ lines_of world (get_or events i d) ++ text_on (after_line world (get_or events i d)) (drop (i + 1) events)
+text_on-line events i world d within =
+    let event = get_or events i d in
+    let front : drop i events ≡ event ∷ drop (i + 1) events = rw (add-one, drop-cons events i d) refl in
+    ap (text_on world) front ∙ text_of-line world event (drop (i + 1) events)
 
--- the text, where the next step's lines come behind what is gathered
-text_next : (first : ClusterStanding) (events : List Event) (i : ℕ) (old : ClusterStanding) (gathered written : List ℕ) (d : Event) → i < length events → text_on first.world events ≡ written ++ (gathered ++ text_on old.world (drop i events)) → text_on first.world events ≡ written ++ (gathered ++ step_lines old.world (step old.world (get_or events i d))) ++ text_on (step old.world (get_or events i d)).after (drop (i + 1) events)
+-- the text, where the next line's comes behind what is gathered
+text_next : (first : ClusterStanding) (events : List Event) (i : ℕ) (old : ClusterStanding) (gathered written : List ℕ) (d : Event) → i < length events → text_on first.world events ≡ written ++ (gathered ++ text_on old.world (drop i events)) → text_on first.world events ≡ written ++ (gathered ++ lines_of old.world (get_or events i d)) ++ text_on (after_line old.world (get_or events i d)) (drop (i + 1) events)
 text_next first events i old gathered written d within is =
-    let lines = step_lines old.world (step old.world (get_or events i d)) in
-    let rest = text_on (step old.world (get_or events i d)).after (drop (i + 1) events) in
-    is ∙ ap (λ t. written ++ (gathered ++ t)) (text_on-step events i old.world d within) ∙ ap (λ t. written ++ t) (sym (append_assoc gathered lines rest)) ∙ sym (append_assoc written (gathered ++ lines) rest)
+    let event = get_or events i d in
+    let lines = lines_of old.world event in
+    let rest = text_on (after_line old.world event) (drop (i + 1) events) in
+    is ∙ ap (λ t. written ++ (gathered ++ t)) (text_on-line events i old.world d within) ∙ ap (λ t. written ++ t) (sym (append_assoc gathered lines rest)) ∙ sym (append_assoc written (gathered ++ lines) rest)
 
--- one step further
+-- one line further
 pub one_further : (first : ClusterStanding) (events : List Event) (i : ℕ) (old new : ClusterStanding) (gathered gathered' : List ℕ) (d : Event) (held mid held' : Option (List ℕ)) (faults midway faults' : ℕ) → i < length events → IsPartWay first events i old gathered held mid faults midway → DoesTurn old (get_or events i d) gathered new gathered' mid held' → faults' ≡ midway → IsPartWay first events (i + 1) new gathered' held held' faults faults'
 one_further first events i old new gathered gathered' d held mid held' faults midway faults' within so_far turn calm =
-    let outcome = step old.world (get_or events i d) in
-    let lines = step_lines old.world outcome in
-    let now : new.world ≡ outcome.after = ap (λ (c : ClusterStanding). c.world) turn.after in
+    let event = get_or events i d in
+    let lines = lines_of old.world event in
+    let now : new.world ≡ after_line old.world event = turn.after in
     let rest = text_on new.world (drop (i + 1) events) in
     let next = text_next first events i old gathered so_far.written d within so_far.rest in
     let all : text_on first.world events ≡ so_far.written ++ (gathered ++ lines) ++ rest = next ∙ ap (λ w. so_far.written ++ (gathered ++ lines) ++ text_on w (drop (i + 1) events)) (sym now) in
@@ -125,20 +150,20 @@ one_further first events i old new gathered gathered' d held mid held' faults mi
       taken = Appends-trans held mid held' so_far.written turn.written so_far.taken turn.taken;
       rest = all ∙ moved;
       calm = calm ∙ so_far.calm;
-      begun = subst (λ w. HaveBegun (i + 1) w.clients) (sym now) (queries_counted i old.world (get_or events i d) so_far.begun);
+      begun = subst (λ w. HaveBegun (i + 1) w.clients) (sym now) (line_counted i old.world event so_far.begun);
     }
 
--- a write failed at the next step
-pub fault_further : (first : ClusterStanding) (events : List Event) (i : ℕ) (old : ClusterStanding) (gathered : List ℕ) (d : Event) (held mid held' : Option (List ℕ)) (faults midway faults' : ℕ) → i < length events → IsPartWay first events i old gathered held mid faults midway → TookBeforeFault (gathered ++ step_lines old.world (step old.world (get_or events i d))) mid held' midway faults' → TookBeforeFault (text_on first.world events) held held' faults faults'
+-- a write failed at the next line
+pub fault_further : (first : ClusterStanding) (events : List Event) (i : ℕ) (old : ClusterStanding) (gathered : List ℕ) (d : Event) (held mid held' : Option (List ℕ)) (faults midway faults' : ℕ) → i < length events → IsPartWay first events i old gathered held mid faults midway → TookBeforeFault (gathered ++ lines_of old.world (get_or events i d)) mid held' midway faults' → TookBeforeFault (text_on first.world events) held held' faults faults'
 fault_further first events i old gathered d held mid held' faults midway faults' within so_far took =
-    let outcome = step old.world (get_or events i d) in
-    took_behind so_far.written (gathered ++ step_lines old.world outcome) (text_on outcome.after (drop (i + 1) events)) (text_on first.world events) held mid held' faults midway faults' (text_next first events i old gathered so_far.written d within so_far.rest) so_far.taken so_far.calm took
+    let event = get_or events i d in
+    took_behind so_far.written (gathered ++ lines_of old.world event) (text_on (after_line old.world event) (drop (i + 1) events)) (text_on first.world events) held mid held' faults midway faults' (text_next first events i old gathered so_far.written d within so_far.rest) so_far.taken so_far.calm took
 
--- there was no memory for the next step
+-- there was no memory for the next line
 pub memory_further : (first : ClusterStanding) (events : List Event) (i : ℕ) (old : ClusterStanding) (gathered : List ℕ) (held mid held' : Option (List ℕ)) (faults midway faults' : ℕ) → IsPartWay first events i old gathered held mid faults midway → held' ≡ mid → faults' ≡ midway → TookFront (text_on first.world events) held held' × (faults' ≡ faults)
 memory_further first events i old gathered held mid held' faults midway faults' so_far kept calm =
     let rest = text_on old.world (drop i events) in
-    let some : 1 ≤ length rest = text_from-some old.world (run_from old.world (drop i events)) in
+    let some : 1 ≤ length rest = text_from-some old.world (run_from old.world (steps_of old.world (drop i events))) in
     let more : 1 ≤ length (gathered ++ rest) = omega (arith, length-append gathered rest) in
     (front_written so_far.written (gathered ++ rest) (text_on first.world events) held held' so_far.rest more (subst (λ h. Appends held h so_far.written) (sym kept) so_far.taken), calm ∙ so_far.calm)
 
@@ -153,21 +178,21 @@ went_on {U} (Err Memory) first rest held mid held' faults midway faults' before 
 
 -- the text of a script's run is never empty
 pub text_of-some : (script : Script) → 1 ≤ length (text_of script)
-text_of-some script = text_from-some (first_world script.servers script.clients) (run_from (first_world script.servers script.clients) script.events)
+text_of-some script = text_from-some (first_world script.servers script.clients) (run_of script)
 
 -- the text of a cluster that begins is that of the run
-text_of_first : (script : Script) (first : ClusterStanding) → first ≡ record { world = first_world script.servers script.clients; failed = false } → text_on first.world script.events ≡ text_of script
+text_of_first : (script : Script) (first : ClusterStanding) → first ≡ record { world = first_world script.servers script.clients; failed = false; befores = 0 } → text_on first.world script.events ≡ text_of script
 text_of_first script first is = ap (λ (c : ClusterStanding). text_on c.world script.events) is
 
--- a step was not done, or its lines not written
+-- a line was not done, or what is printed of it not written
 pub step_stopped : (U V : Type 0) (stop : Stop) (first : ClusterStanding) (events : List Event) (i : ℕ) (old new : ClusterStanding) (gathered gathered' : List ℕ) (event : Event) (held mid held' : Option (List ℕ)) (faults midway faults' : ℕ) → i < length events → event ≡ get_or events i event → IsPartWay first events i old gathered held mid faults midway → Turns {U = U} old event gathered (Err stop) new gathered' mid held' midway faults' → RunsEvents {U = V} first events (Err stop) new gathered' held held' faults faults'
 step_stopped U V Write first events i old new gathered gathered' event held mid held' faults midway faults' within is so_far took =
-    fault_further first events i old gathered event held mid held' faults midway faults' within so_far (subst (λ e. TookBeforeFault (gathered ++ step_lines old.world (step old.world e)) mid held' midway faults') is took)
+    fault_further first events i old gathered event held mid held' faults midway faults' within so_far (subst (λ e. TookBeforeFault (gathered ++ lines_of old.world e) mid held' midway faults') is took)
 step_stopped U V Memory first events i old new gathered gathered' event held mid held' faults midway faults' within is so_far kept =
     memory_further first events i old gathered held mid held' faults midway faults' so_far kept.0 kept.1
 
 -- how the end of a run follows from its steps and its last lines
-pub ended : {U : Type 0} (script : Script) (first last : ClusterStanding) (result : Result U Stop) (gathered : List ℕ) (held mid held' : Option (List ℕ)) (faults midway faults' : ℕ) → first ≡ record { world = first_world script.servers script.clients; failed = false } → RanEvents first script.events last gathered held mid → midway ≡ faults → IsWritten (gathered ++ end_lines last.world.history) result mid held' midway faults' → IsWritten (text_of script) result held held' faults faults'
+pub ended : {U : Type 0} (script : Script) (first last : ClusterStanding) (result : Result U Stop) (gathered : List ℕ) (held mid held' : Option (List ℕ)) (faults midway faults' : ℕ) → first ≡ record { world = first_world script.servers script.clients; failed = false; befores = 0 } → RanEvents first script.events last gathered held mid → midway ≡ faults → IsWritten (gathered ++ end_lines last.world.history) result mid held' midway faults' → IsWritten (text_of script) result held held' faults faults'
 ended {U} script first last result gathered held mid held' faults midway faults' is ran calm wrote =
     let ending = end_lines last.world.history in
     let text : text_of script ≡ ran.written ++ (gathered ++ ending) = sym (text_of_first script first is) ∙ ran.text ∙ append_assoc ran.written gathered ending in

@@ -7,9 +7,11 @@ use Rattle.kr_text.specs.Reads.{GaveAll, GaveSome, GaveTooMany}
 use Rattle.kr_text.specs.Writes.{TookBeforeFault}
 use Rattle.script_lang.specs.declared.script.Script.{Script}
 use Rattle.script_lang.specs.Line.{line}
+use Rattle.script_lang.specs.Number.{IsFromOneTo}
 use Rattle.script_lang.specs.Script.{Parses, IsBadLine}
 use Rattle.kr_world.specs.Run.{run_of, text_of}
 use Rattle.kr_world.specs.Lawful.{IsLawful}
+use Rattle.load_gen.specs.Summary.{load_text}
 use Rattle.kronos.specs.declared.exit.Exit.{Exit}
 use Rattle.kronos.specs.declared.exit.Exit.TheVariants.{Done, Usage, BadLine, TooLong, ReadFault, WriteFault, NoMemory}
 
@@ -22,8 +24,17 @@ pub record Outside : Type 0 where
   pub writes : ℕ
 
 -- the words ask for the run of a script
+abbrev pub AskForScript : List (List ℕ) → Type 0
+AskForScript words = words ≡ codes "script" ∷ []
+
+-- the words ask for the load of so many rounds
+pub record AskForLoad (rounds : ℕ) (words : List (List ℕ)) : Type 0 where
+  pub size : IsFromOneTo 2000 rounds
+  pub words_are : words ≡ codes "load" ∷ decimal rounds ∷ []
+
+-- the words ask for a run
 abbrev pub IsForm : List (List ℕ) → Type 0
-IsForm words = words ≡ codes "script" ∷ []
+IsForm words = AskForScript words ⊎ ((rounds : ℕ) × AskForLoad rounds words)
 
 abbrev pub input_limit : ℕ
 input_limit = 1048576
@@ -39,9 +50,9 @@ pub record IsCalm (before after : Outside) : Type 0 where
   pub reads : after.reads ≡ before.reads
   pub writes : after.writes ≡ before.writes
 
--- the words ask for a run, and these bytes are the whole input
+-- the words ask for the run of a script, and these bytes are the whole input
 pub record HasRead (words : List (List ℕ)) (before after : Outside) (bytes : List ℕ) : Type 0 where
-  pub form : IsForm words
+  pub form : AskForScript words
   pub whole : GaveAll input_limit before.left after.left bytes
   pub calm : after.reads ≡ before.reads
 
@@ -93,14 +104,14 @@ pub record HasBadLine (n : ℕ) (words : List (List ℕ)) (before after : Outsid
 
 -- TooLong: the source gave a byte past the limit, and nothing was written.
 pub record IsTooLong (words : List (List ℕ)) (before after : Outside) : Type 0 where
-  pub form : IsForm words
+  pub form : AskForScript words
   pub over : GaveTooMany input_limit before.left after.left
   pub unwritten : Keeps before.held after.held
   pub calm : IsCalm before after
 
 -- ReadFault: the source counted a fault, and nothing was written.
 pub record FailedToRead (words : List (List ℕ)) (before after : Outside) : Type 0 where
-  pub form : IsForm words
+  pub form : AskForScript words
   pub given : GaveSome input_limit before.left after.left
   pub rose : Rose before.reads after.reads
   pub unwritten : Keeps before.held after.held
@@ -124,33 +135,65 @@ pub record TookFront (text : List ℕ) (held held' : Option (List ℕ)) : Type 0
   pub short : count < length text
   pub taken : Appends held held' (take count text)
 
--- NoMemory: the words are a form, and no read and no write failed. Nothing was written, or the whole input was read and
+-- NoMemory: the words ask for the run of a script, and no read and no write failed. Nothing was written, or the whole input was read and
 -- a front of the text that was due was written, and not all of it.
 pub record LacksMemory (words : List (List ℕ)) (before after : Outside) : Type 0 where
-  pub form : IsForm words
+  pub form : AskForScript words
   pub given : GaveSome input_limit before.left after.left
   pub calm : IsCalm before after
   pub written : Keeps before.held after.held ⊎ ((text : List ℕ) × HadToWrite words before after text × TookFront text before.held after.held)
 
+-- the words ask for the load of so many rounds, and nothing was read
+pub record IsLoad (rounds : ℕ) (words : List (List ℕ)) (before after : Outside) : Type 0 where
+  pub form : AskForLoad rounds words
+  pub unread : Keeps before.left after.left
+  pub calm : after.reads ≡ before.reads
+
+-- Done of a load: the summary of its run was written.
+pub record HasLoaded (words : List (List ℕ)) (before after : Outside) : Type 0 where
+  pub rounds : ℕ
+  pub load : IsLoad rounds words before after
+  pub written : Appends before.held after.held (load_text rounds)
+  pub calm : after.writes ≡ before.writes
+
+-- WriteFault of a load: the sink counted a fault, and took a front of the summary, and not all of it.
+pub record FailedToWriteLoad (words : List (List ℕ)) (before after : Outside) : Type 0 where
+  pub rounds : ℕ
+  pub load : IsLoad rounds words before after
+  pub took : TookBeforeFault (load_text rounds) before.held after.held before.writes after.writes
+
+-- NoMemory of a load: nothing was written, and no write failed.
+pub record LacksMemoryForLoad (words : List (List ℕ)) (before after : Outside) : Type 0 where
+  pub rounds : ℕ
+  pub load : IsLoad rounds words before after
+  pub unwritten : Keeps before.held after.held
+  pub calm : after.writes ≡ before.writes
+
 -- what the end of the program says of its words, and of what was seen outside before and afterwards
 abbrev pub Ends : Exit → List (List ℕ) → Outside → Outside → Type 0
-Ends Done words before after = HasRun words before after
+Ends Done words before after = HasRun words before after ⊎ HasLoaded words before after
 Ends Usage words before after = HasUsage words before after
 Ends (BadLine n) words before after = HasBadLine n words before after
 Ends TooLong words before after = IsTooLong words before after
 Ends ReadFault words before after = FailedToRead words before after
-Ends WriteFault words before after = FailedToWrite words before after
-Ends NoMemory words before after = LacksMemory words before after
+Ends WriteFault words before after = FailedToWrite words before after ⊎ FailedToWriteLoad words before after
+Ends NoMemory words before after = LacksMemory words before after ⊎ LacksMemoryForLoad words before after
 
--- the words ask for a run, the input is a script within the limit, and neither source nor sink counts a fault
+-- the words ask for the run of a script, the input is one within the limit, and neither source nor sink counts a fault
 pub record IsServed (words : List (List ℕ)) (before after : Outside) : Type 0 where
-  pub form : IsForm words
+  pub form : AskForScript words
   pub bytes : List ℕ
   pub script : Script
   pub told : before.left ≡ Some bytes
   pub fits : length bytes ≤ input_limit
   pub parses : Parses bytes script
   pub read : Rose before.reads after.reads → ⊥
+  pub written : Rose before.writes after.writes → ⊥
+
+-- the words ask for a load, and the sink counts no fault
+pub record IsLoadServed (words : List (List ℕ)) (before after : Outside) : Type 0 where
+  pub rounds : ℕ
+  pub form : AskForLoad rounds words
   pub written : Rose before.writes after.writes → ⊥
 
 -- what the end of the program says once the whole input was read: what the sink held before and holds afterwards, and
@@ -165,3 +208,11 @@ EndsOnBytes WriteFault bytes held held' faults faults' =
 EndsOnBytes NoMemory bytes held held' faults faults' =
     (faults' ≡ faults) × (Keeps held held' ⊎ ((text : List ℕ) × IsDueFor bytes text × TookFront text held held'))
 EndsOnBytes other bytes held held' faults faults' = ⊥
+
+-- what the end of the program says of a load of so many rounds: what the sink held before and holds afterwards, and how
+-- many faults it had and has counted
+abbrev pub EndsOnLoad : Exit → ℕ → Option (List ℕ) → Option (List ℕ) → ℕ → ℕ → Type 0
+EndsOnLoad Done rounds held held' faults faults' = Appends held held' (load_text rounds) × (faults' ≡ faults)
+EndsOnLoad WriteFault rounds held held' faults faults' = TookBeforeFault (load_text rounds) held held' faults faults'
+EndsOnLoad NoMemory rounds held held' faults faults' = Keeps held held' × (faults' ≡ faults)
+EndsOnLoad other rounds held held' faults faults' = ⊥

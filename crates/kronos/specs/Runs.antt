@@ -1,12 +1,12 @@
 -- What running a script writes.
-use Rattle.std.specs.Prelude.{◌≡◌, ℕ, List, ◌++◌, false, Option, Result, Ok, Err}
+use Rattle.std.specs.Prelude.{◌≡◌, ℕ, List, ◌++◌, Option, Result, Ok, Err}
 use Rattle.std.specs.Io.KnownBytes.{Appends}
 use Rattle.kr_text.specs.Writes.{TookBeforeFault}
 use Rattle.script_lang.specs.declared.script.Event.{Event}
 use Rattle.kr_world.specs.World.{World}
-use Rattle.kr_world.specs.Step.{step}
-use Rattle.kr_world.specs.Lines.{step_lines, end_lines}
-use Rattle.kr_world.specs.Run.{run_from, text_from}
+use Rattle.kr_world.specs.Lines.{end_lines}
+use Rattle.kr_world.specs.Round.{after_line, steps_of}
+use Rattle.kr_world.specs.Run.{run_from, lines_of, text_from}
 use Rattle.cluster_sim.specs.ClusterStanding.{ClusterStanding}
 use Rattle.kronos.specs.declared.exit.Exit.{Exit}
 use Rattle.kronos.specs.declared.exit.Exit.TheVariants.{WriteFault, NoMemory}
@@ -20,22 +20,23 @@ IsWritten text (Ok done) held held' faults faults' = Appends held held' text × 
 IsWritten text (Err Write) held held' faults faults' = TookBeforeFault text held held' faults faults'
 IsWritten text (Err Memory) held held' faults faults' = TookFront text held held' × (faults' ≡ faults)
 
--- the text that these events have from a world on
+-- the text that these lines have from a world on
 abbrev pub text_on : World → List Event → List ℕ
-text_on world events = text_from world (run_from world events)
+text_on world events = text_from world (run_from world (steps_of world events))
 
--- the step was done; its lines came behind those that were gathered, and what is no longer gathered was written
+-- the plain steps of a line were done; what is printed of them came behind what was gathered, and what is no longer
+-- gathered was written
 pub record DoesTurn (old : ClusterStanding) (event : Event) (gathered : List ℕ) (new : ClusterStanding) (gathered' : List ℕ) (held held' : Option (List ℕ)) : Type 0 where
-  pub after : new ≡ record { world = (step old.world event).after; failed = false }
+  pub after : new.world ≡ after_line old.world event
   pub written : List ℕ
   pub taken : Appends held held' written
-  pub lines : gathered ++ step_lines old.world (step old.world event) ≡ written ++ gathered'
+  pub lines : gathered ++ lines_of old.world event ≡ written ++ gathered'
 
 abbrev pub Turns : {U : Type 0} → ClusterStanding → Event → List ℕ → Result U Stop → ClusterStanding → List ℕ → Option (List ℕ) → Option (List ℕ) → ℕ → ℕ → Type 0
 Turns old event gathered (Ok done) new gathered' held held' faults faults' =
     DoesTurn old event gathered new gathered' held held' × (faults' ≡ faults)
 Turns old event gathered (Err Write) new gathered' held held' faults faults' =
-    TookBeforeFault (gathered ++ step_lines old.world (step old.world event)) held held' faults faults'
+    TookBeforeFault (gathered ++ lines_of old.world event) held held' faults faults'
 Turns old event gathered (Err Memory) new gathered' held held' faults faults' = (held' ≡ held) × (faults' ≡ faults)
 
 -- the events' steps were done; what was written, what is gathered and the lines of the history at the end are their text

@@ -1,10 +1,12 @@
-//! The program: it reads a script, runs it, and prints its transcript.
+//! The program: it reads a script, runs it, and prints its transcript; or it runs a made load, and prints its summary.
 //!
 //! All that the program does is `kronos_script`, whose contract says for each of its ends what was read, what
 //! was written, and why it came.
 #![tactic(auto)]
 
 mod exit;
+mod form;
+mod load;
 #[cfg(test)]
 mod rows;
 mod run;

@@ -16,8 +16,10 @@ mod chains;
 mod create_an_event;
 mod faults;
 mod joins;
+mod loads;
 mod queries;
 mod references;
+mod rounds;
 mod stops;
 
 // The exit, and what was written.
@@ -46,7 +48,7 @@ fn answer_with_faults<R: Threads + Sync>(
 ) -> Result<Ended, Fail> {
     let words = words_of(alloc, words)?;
     let mut source = FailingSource::new(input.to_vec(alloc)?, reads.to_vec(alloc)?);
-    let mut sink = FailingSink::new(alloc, 4096, writes.to_vec(alloc)?)?;
+    let mut sink = FailingSink::new(alloc, 16_384, writes.to_vec(alloc)?)?;
     let exit = kronos_script(rt, alloc, &words, &mut source, &mut sink);
     Ok(Ended {
         exit,

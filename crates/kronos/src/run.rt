@@ -60,7 +60,7 @@ impl From<NoMemory> for Stop {
 // So many bytes are gathered before they are written.
 const PIECE: usize = 65_536;
 
-/// Runs the script, and writes its text: the lines of each step, gathered into pieces, and then those of the history.
+/// Runs the script, and writes its text: the lines of all its steps, gathered into pieces, and then those of the history.
 pub fn run<R: Threads + Sync, K: Sink>(
     rt: &R,
     alloc: Global,
@@ -88,7 +88,7 @@ pub fn run<R: Threads + Sync, K: Sink>(
     }
 }
 
-// Does the steps of the events, one after the other, and gathers and writes their lines.
+// Does what the lines say, one after the other, and gathers and writes the lines of their steps.
 fn run_events<R: Threads + Sync, K: Sink>(
     rt: &R,
     cluster: &mut Cluster,
@@ -111,7 +111,7 @@ fn run_events<R: Threads + Sync, K: Sink>(
     Ok(())
 }
 
-// Does one step and gathers its lines; where there are enough for a piece, they are written.
+// Does what one line says and gathers the lines of its steps; where there are enough for a piece, they are written.
 fn turn<R: Threads + Sync, K: Sink>(
     rt: &R,
     cluster: &mut Cluster,

@@ -1,11 +1,13 @@
 //! The top call: words, whole input, its lines, and the run.
 
-ghost use Rattle.std.specs.Prelude.{◌≡◌, ◌⊎◌, ◌↔◌, ℕ, List, map, codes, IsTrue};
+ghost use Rattle.std.specs.Prelude.{◌≡◌, ◌⊎◌, ℕ, List, map};
 ghost use Rattle.std.specs.Rc.{rc_str_bytes};
-ghost use Rattle.kronos.specs.Ends.{Ends, EndsOnBytes, IsForm, IsServed, bad_line};
+ghost use Rattle.kronos.specs.Ends.{Ends, EndsOnBytes, AskForScript, IsServed, IsLoadServed, bad_line};
 ghost use Rattle.kronos.specs.Runs.{IsWritten, exit_after};
 
 use crate::exit::Exit;
+use crate::form::{Form, form_of};
+use crate::load::run_load;
 use crate::run::{Stop, run};
 use kr_text::{ReadStop, Sink, Source, WriteStop, read_all, write_all};
 use script_lang::{ScriptStop, read_script};
@@ -20,8 +22,9 @@ const INPUT_LIMIT: usize = 1_048_576;
 const USAGE: &[u8] = b"usage: kronos script, load N, live, audit, import, chain\n";
 
 /// Runs the program: with the word `script` it reads the whole source as a script, of at most 1,048,576 bytes,
-/// runs it step by step, and writes its transcript. Any other words are no form. The answer is the first refusal
-/// that is met, in the order words, input, lines, run.
+/// runs it step by step, and writes its transcript; with the words `load N` it reads nothing, runs the load of N
+/// rounds, 1 to 2,000, and writes its summary. Any other words are no form. The answer is the first refusal that is
+/// met, in the order words, input, lines, run.
 pub fn kronos_script<R: Threads + Sync, S: Source, K: Sink>(
     rt: &R,
     alloc: Global,
@@ -33,6 +36,10 @@ pub fn kronos_script<R: Threads + Sync, S: Source, K: Sink>(
         (record { left = S.left source.old; reads = S.faults source.old; held = K.held sink.old; writes = K.faults sink.old })
         (record { left = S.left source.new; reads = S.faults source.new; held = K.held sink.new; writes = K.faults sink.new }) }
     ensures complete { IsServed (map rc_str_bytes words.now)
+        (record { left = S.left source.old; reads = S.faults source.old; held = K.held sink.old; writes = K.faults sink.old })
+        (record { left = S.left source.new; reads = S.faults source.new; held = K.held sink.new; writes = K.faults sink.new })
+        → (result ≡ Exit.Done) ⊎ (result ≡ Exit.NoMemory) }
+    ensures complete_load { IsLoadServed (map rc_str_bytes words.now)
         (record { left = S.left source.old; reads = S.faults source.old; held = K.held sink.old; writes = K.faults sink.old })
         (record { left = S.left source.new; reads = S.faults source.new; held = K.held sink.new; writes = K.faults sink.new })
         → (result ≡ Exit.Done) ⊎ (result ≡ Exit.NoMemory) }
@@ -53,12 +60,13 @@ fn run_words<R: Threads + Sync, S: Source, K: Sink>(
         (record { left = S.left source.old; reads = S.faults source.old; held = K.held sink.old; writes = K.faults sink.old })
         (record { left = S.left source.new; reads = S.faults source.new; held = K.held sink.new; writes = K.faults sink.new }) }
 {
-    if is_form(words) {
-        return run_input(rt, alloc, source, sink);
-    }
-    match write_all(sink, USAGE) {
-        Ok(()) => Exit::Usage,
-        Err(WriteStop::Fault) => Exit::WriteFault,
+    match form_of(words) {
+        Some(Form::Script) => run_input(rt, alloc, source, sink),
+        Some(Form::Load(rounds)) => run_load(rt, alloc, rounds, sink),
+        None => match write_all(sink, USAGE) {
+            Ok(()) => Exit::Usage,
+            Err(WriteStop::Fault) => Exit::WriteFault,
+        },
     }
 }
 
@@ -69,7 +77,7 @@ fn run_input<R: Threads + Sync, S: Source, K: Sink>(
     source: &mut S,
     sink: &mut K,
 ) -> Exit
-    ensures { (words : List (List ℕ)) → IsForm words → Ends result words
+    ensures { (words : List (List ℕ)) → AskForScript words → Ends result words
         (record { left = S.left source.old; reads = S.faults source.old; held = K.held sink.old; writes = K.faults sink.old })
         (record { left = S.left source.new; reads = S.faults source.new; held = K.held sink.new; writes = K.faults sink.new }) }
 {
@@ -116,21 +124,4 @@ fn say_bad_line<K: Sink>(alloc: Global, sink: &mut K, n: u64) -> Result<(), Stop
     let line = format!(in alloc; "bad line {n}\n")?;
     write_all(sink, line.as_bytes())?;
     Ok(())
-}
-
-// Whether the words ask for the run of a script.
-fn is_form(words: &[RcStr]) -> bool
-    ensures { IsTrue result ↔ IsForm (map rc_str_bytes words.now) }
-{
-    match words {
-        [word] => is_script(word),
-        _ => false,
-    }
-}
-
-// Whether the word is `script`.
-fn is_script(word: &RcStr) -> bool
-    ensures { IsTrue result ↔ (rc_str_bytes word.now ≡ codes "script") }
-{
-    word.as_str() == "script"
 }

@@ -36,6 +36,8 @@ fn other_words_get_the_usage_line(rt: HostRuntime) -> Result<(), Fail> {
         &["load", "0"],
         &["load", "2001"],
         &["load", "01"],
+        &["load"],
+        &["load", "1", "1"],
         &["script", "x"],
         &["--help"],
         &["scrip"],
