@@ -63,13 +63,25 @@ def num(value):
     return text[:-2] if text.endswith(".0") else text
 
 
-class Row:
-    """A band of the picture: one step, or the names of the columns again (no step)."""
+class Cell:
+    """A step, and what is written at the left and at the right of its node."""
 
     def __init__(self, step, index):
         self.step, self.index = step, index
-        self.gutter, self.left, self.right, self.history = [], [], [], []
+        self.left, self.right = [], []
+
+
+class Row:
+    """A band of the picture: one step, or parts of a round side by side, or the columns' names again (no step)."""
+
+    def __init__(self, cells):
+        self.cells = cells
+        self.step = cells[0].step if cells else None
+        self.gutter, self.history = [], []
         self.top, self.height = 0, ROW
+
+    def texts(self):
+        return [texts for cell in self.cells for texts in (cell.left, cell.right)]
 
 
 class Page:
@@ -78,10 +90,13 @@ class Page:
         self.stripes, self.under, self.arrows, self.over = [], [], [], []
         self.ends, self.known = {}, 0
         self.columns()
-        self.rows = [row for row in map(self.row, range(len(run.steps)), run.steps) if row]
+        self.rows = []
+        for row in map(self.row, range(len(run.steps)), run.steps):
+            if row:
+                self.put(row)
         if len(self.rows) > 2 * BAND:
             for at in range(BAND * ((len(self.rows) - 1) // BAND), 0, -BAND):
-                self.rows.insert(at, Row(None, None))
+                self.rows.insert(at, Row([]))
         self.measure()
 
     # Where things stand
@@ -96,7 +111,8 @@ class Page:
 
     def row(self, index, step):
         """What is written in the row of a step; a part of a round that shows nothing has none."""
-        row = Row(step, index)
+        cell = Cell(step, index)
+        row = Row([cell])
         takes = step.words[0] == "deliver"
         if step.of_round:
             if not step.lines and not takes:
@@ -111,16 +127,16 @@ class Page:
         for line in step.lines:
             words = line.split()
             if words[0] in ("told", "part", "show"):
-                row.right += [(text, INK, "told") for text in told(words)]
+                cell.right += [(text, INK, "told") for text in told(words)]
         if step.view:
             number, chain, joiner = step.view
             texts = wrap("view %d: %s" % (number, " ".join("s%d" % server for server in chain)), WIDEST, " ")
             texts += ["s%d joins" % joiner] if joiner else []
-            row.right += [(text, COLOURS["view"], "told") for text in texts]
+            cell.right += [(text, COLOURS["view"], "told") for text in texts]
         if step.words[0] == "stop":
-            row.right.append(("stopped", RED, "told"))
+            cell.right.append(("stopped", RED, "told"))
         for packet in step.sent:
-            side = row.right if self.place[packet.receiver] > here else row.left
+            side = cell.right if self.place[packet.receiver] > here else cell.left
             side.append(("%d: %s" % (packet.number, packet.what), self.colour(packet), "sent"))
         if step.grown:
             for entry in self.run.history[self.known : step.grown]:
@@ -128,15 +144,55 @@ class Page:
             self.known = step.grown
         return row
 
+    def gaps(self, cell):
+        """The gaps between columns that its texts take."""
+        here = self.place.get(cell.step.actor, 0)
+        return {gap for texts, gap in ((cell.right, here), (cell.left, here - 1)) if texts}
+
+    def is_over(self, step, row):
+        """The row has to stand over a part of its round: it has a step of the same node, or the one that sent what the
+        part takes."""
+        sender = self.run.packets[int(step.words[1])].sent if step.words[0] == "deliver" else None
+        return any(cell.step.actor == step.actor or cell.index == sender for cell in row.cells)
+
+    def beside(self, row):
+        """The first row of its round in which a part may stand, beside parts whose texts leave it room, if any."""
+        found, cell = None, row.cells[0]
+        for other in reversed(self.rows):
+            of_this = other.step.of_round and other.step.number == row.step.number and not other.step.refused
+            if not of_this or self.is_over(row.step, other):
+                break
+            if not any(self.gaps(cell) & self.gaps(one) for one in other.cells):
+                found = other
+            if row.history and other.history:
+                break
+        return found
+
+    def put(self, row):
+        """Puts the row under the others, or, where it is a part of a round, beside others of it."""
+        other = self.beside(row) if row.step.of_round and not row.step.refused else None
+        if not other:
+            self.rows.append(row)
+            return
+        other.cells += row.cells
+        other.history += row.history
+        texts = []
+        for step in (cell.step for cell in other.cells):
+            if len(step.words) == 2 and texts and texts[-1].split()[0] == step.words[0]:
+                texts[-1] += " " + step.words[1]
+            else:
+                texts.append(step.text)
+        other.gutter = [line for text in texts for line in wrap("round: " + text, 26, "  ")]
+
     def measure(self):
         gaps = [COLUMN] * (len(self.nodes))
-        for row in self.rows:
-            if row.step and row.step.actor in self.place:
-                here = self.place[row.step.actor]
-                for texts, gap in ((row.right, here), (row.left, here - 1)):
+        for cell in (cell for row in self.rows for cell in row.cells):
+            if cell.step.actor in self.place:
+                here = self.place[cell.step.actor]
+                for texts, gap in ((cell.right, here), (cell.left, here - 1)):
                     for text, _, _ in texts:
                         gaps[gap] = max(gaps[gap], len(text) * LETTER + 26)
-        if not any(row.right for row in self.rows if row.step and row.step.actor == self.nodes[-1]):
+        if not any(cell.right for row in self.rows for cell in row.cells if cell.step.actor == self.nodes[-1]):
             gaps[-1] = 50
         self.x = [GUTTER + 14]
         for gap in gaps[:-1]:
@@ -147,11 +203,11 @@ class Page:
         self.head = 84
         top = self.head
         for row in self.rows:
-            deep = max(len(row.gutter), len(row.left), len(row.right), len(row.history), 1)
+            deep = max(len(row.gutter), len(row.history), 1, *map(len, row.texts()))
             row.top, row.height = top, ROW + LINE * (deep - 1)
             top += row.height
         self.bottom = top + 8
-        self.row_of = {row.index: row for row in self.rows if row.step}
+        self.row_of = {cell.index: row for row in self.rows for cell in row.cells}
 
     def colour(self, packet):
         return COLOURS.get(packet.what.split()[0], SOFT)
@@ -192,15 +248,16 @@ class Page:
                 red = row.step.refused and text.startswith("refused ")
                 soft = SOFT if row.step.of_round else INK
                 self.text(52, y + LINE * at, text, RED if red else soft)
-            self.draw_cell(row, y)
+            for cell in row.cells:
+                self.draw_cell(row, cell, y)
             for at, text in enumerate(row.history):
                 self.text(self.history_x, y + LINE * at, text)
 
-    def draw_cell(self, row, y):
-        if row.step.actor not in self.place:
+    def draw_cell(self, row, cell, y):
+        if cell.step.actor not in self.place:
             return
-        x = self.x[self.place[row.step.actor]]
-        if row.step.words[0] == "stop":
+        x = self.x[self.place[cell.step.actor]]
+        if cell.step.words[0] == "stop":
             end = row.top + ROW / 2
             self.arrows.append(
                 '<path d="M%s %sh16M%s %sl10 10m0 -10l-10 10" stroke="%s" stroke-width="2.5" fill="none"/>'
@@ -209,9 +266,9 @@ class Page:
         else:
             box = (num(x - 3), num(row.top + 3), num(row.height - 6), SOFT)
             self.under.append('<rect x="%s" y="%s" width="6" height="%s" rx="3" fill="%s"/>' % box)
-        for at, (text, colour, kind) in enumerate(row.right):
+        for at, (text, colour, kind) in enumerate(cell.right):
             self.text(x + 9, y + LINE * at, text, colour, "start", ' font-weight="bold"' if kind == "told" else "")
-        for at, (text, colour, _) in enumerate(row.left):
+        for at, (text, colour, _) in enumerate(cell.left):
             self.text(x - 9, y + LINE * at, text, colour, "end")
 
     def draw_packet(self, packet):
