@@ -3,7 +3,8 @@
 //! Contracts see a `NoFaultSource` as the bytes that it has left, and a `FailingSource` and a `FailingSink`
 //! as records of their bytes, the calls that fail, the calls so far and the faults so far.
 
-ghost use Rattle.std.specs.Prelude.{◌≡◌, ◌-◌, ◌<◌, ◌≤◌, ◌↔◌, ◌⊎◌, ℕ, List, [], length, take, drop, min, Some, None, IfOk, IsErr, Contains, vec_len, vec_capacity};
+ghost use Rattle.std.specs.Prelude.{◌≡◌, ◌-◌, ◌<◌, ◌≤◌, ◌↔◌, ◌⊎◌, ℕ, List, [], length, take, drop, min, Some, None, IfOk, IsErr};
+ghost use Rattle.std.specs.Prelude.{Contains, vec_len, vec_capacity};
 ghost use Rattle.std.specs.Io.{ReadsAtMost, WritesAtMost};
 ghost use Rattle.std.specs.Io.KnownBytes.{ReadConsumes, WriteAppends};
 ghost use Rattle.kr_text.specs.Causes.{HasCause};

@@ -57,12 +57,6 @@ no_tick words manager none (Tick (Some server)) fit is = none server.0 fit.fit i
 no_tick words manager none (Call client Create) fit is = absurd (omega (arith, ap word_key fit.named))
 no_tick words manager none event fit is = absurd (omega (arith, ap word_key fit.named))
 
--- what stands behind join gives no event
-pub no_join : (words : List ℕ) → words ≢ [] → (event : Event) → IsEventOf (codes "join") event → words ≢ event_words event
-no_join words some Join fit is = some is
-no_join words some (Call client Create) fit is = absurd (omega (arith, ap word_key fit.named))
-no_join words some event fit is = absurd (omega (arith, ap word_key fit.named))
-
 -- which words give an assign: a client's number, and then a batch
 pub no_assign : (words : List ℕ) → ((client : ClientId) (batch : List Pair) → ReadsWord decimal (IsFromOneTo 4294967295) words client.0 (pair_words batch) → ArePairs IsPair batch → ⊥) → (event : Event) → IsEventOf (codes "assign") event → words ≢ event_words event
 no_assign words none (Call client (Assign batch)) fit is =
@@ -81,9 +75,6 @@ no_query words none (Query client server pairs) fit is =
     none client server pairs (both_reads asked_word 4294967295 client.0 server.0 pairs words fit.fit.client_fits is) (λ rest rest_is. front_reads asked_word 4294967295 server.0 pairs rest fit.fit.server_fits rest_is) fit.fit.some fit.fit.pairs_fit
 no_query words none (Call client Create) fit is = absurd (omega (arith, ap word_key fit.named))
 no_query words none event fit is = absurd (omega (arith, ap word_key fit.named))
-
-pub query_without_client : (words : List ℕ) → ((n : ℕ) (rest : List ℕ) → ReadsWord decimal (IsFromOneTo 4294967295) words n rest → ⊥) → (event : Event) → IsEventOf (codes "query") event → words ≢ event_words event
-query_without_client words none = no_query words (λ client server pairs read _ _ _. none client.0 (one_word server.0 ++ asked_words pairs) read)
 
 pub query_without_server : (words : List ℕ) (n : ℕ) (rest : List ℕ) → ReadsWord decimal (IsFromOneTo 4294967295) words n rest → ((m : ℕ) (after : List ℕ) → ReadsWord decimal (IsFromOneTo 4294967295) rest m after → ⊥) → (event : Event) → IsEventOf (codes "query") event → words ≢ event_words event
 query_without_server words n rest read none = no_query words (λ client server pairs other behind _ _.

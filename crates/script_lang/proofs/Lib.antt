@@ -7,4 +7,7 @@ pub mod KindLemmas
 pub mod SizeLemmas
 pub mod ScriptLemmas
 mod Spellings
+pub mod LiveLemmas
+pub mod LiveLineLemmas
+mod LiveSpellings
 pub mod PrintLemmas

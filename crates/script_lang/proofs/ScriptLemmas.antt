@@ -43,10 +43,6 @@ pub record IsRead (bytes : List ℕ) (servers clients : ℕ) (events : List Even
   pub each : All IsEvent events
   pub front : bytes ≡ first_line servers clients ++ event_lines events ++ rest
 
-pub read_none : (bytes : List ℕ) (servers clients : ℕ) (rest : List ℕ) → ReadsSize bytes servers clients rest → IsRead bytes servers clients [] rest
-read_none bytes servers clients rest read =
-    record { size = read.size; each = All-nil IsEvent; front = read.whole ∙ ap (λ f. f ++ rest) (sym (append-nil (first_line servers clients))) }
-
 pub read_more : (bytes : List ℕ) (servers clients : ℕ) (events : List Event) (rest : List ℕ) (event : Event) (more : List ℕ) → IsRead bytes servers clients events rest → ReadsEvent rest event more → IsRead bytes servers clients (events ++ event ∷ []) more
 read_more bytes servers clients events rest event more before read =
     let lines : event_lines (events ++ event ∷ []) ≡ event_lines events ++ line (event_text event) = event_lines-append events (event ∷ []) ∙ ap (λ l. event_lines events ++ l) (append-nil (line (event_text event))) in
@@ -58,10 +54,6 @@ read_more bytes servers clients events rest event more before read =
   where
     regroup : (f es l m : List ℕ) → f ++ es ++ (l ++ m) ≡ f ++ (es ++ l) ++ m
     regroup f es l m = simp append_assoc
-
--- all bytes are read
-pub read_all_of : (bytes : List ℕ) (servers clients : ℕ) (events : List Event) → IsRead bytes servers clients events [] → bytes ≡ first_line servers clients ++ event_lines events
-read_all_of bytes servers clients events read = read.front ∙ append-nil (first_line servers clients ++ event_lines events)
 
 -- a line that spells an event is read
 pub line_read : (rest text more : List ℕ) (read : Option Event) (event : Event) → IsCut rest text more → read ≡ Some event → Spells event_text IsEvent text read → ReadsEvent rest event more

@@ -99,10 +99,6 @@ words_have_no_end word Fits free (x ∷ items) fit =
 pub word_once : (most most' : ℕ) (bytes : List ℕ) (m n : ℕ) (xs ys : List ℕ) → most < 2 ^ 64 → most' < 2 ^ 64 → ReadsWord decimal (IsFromOneTo most) bytes m xs → ReadsWord decimal (IsFromOneTo most') bytes n ys → (m ≡ n) × (xs ≡ ys)
 word_once most most' bytes m n xs ys small small' one other = number_once m n xs ys (omega (arith, one.fit.high)) (omega (arith, other.fit.high)) one.ends other.ends (ap (drop 1) (sym one.whole ∙ other.whole))
 
--- one number alone behind a space
-pub one_reads : (most n : ℕ) (bytes : List ℕ) → IsFromOneTo most n → bytes ≡ one_word n → ReadsWord decimal (IsFromOneTo most) bytes n []
-one_reads most n bytes fit is = record { fit = fit; whole = is ∙ sym (append-nil (one_word n)); ends = tt }
-
 -- the first of two numbers
 pub first_reads : (most a b : ℕ) (bytes : List ℕ) → IsFromOneTo most a → bytes ≡ two_words (a, b) → ReadsWord decimal (IsFromOneTo most) bytes a (one_word b)
 first_reads most a b bytes fit is =

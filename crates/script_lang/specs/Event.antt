@@ -9,7 +9,8 @@ use Rattle.kr_order.specs.declared.history.Command.{Command}
 use Rattle.kr_order.specs.declared.history.Command.TheVariants.{Create, Assign, Acquire, Release}
 use Rattle.kr_order.specs.Text.{command_word, command_words, asked_word}
 use Rattle.script_lang.specs.declared.script.Event.{Event}
-use Rattle.script_lang.specs.declared.script.Event.TheVariants.{Call, Query, Retry, Deliver, Lose, Tick, Work, Stop, Notice, Show, Join, Round, Learn}
+use Rattle.script_lang.specs.declared.script.Event.TheVariants.{Call, Query, Retry, Deliver, Lose, Tick, Work, Stop, Notice, Show, Join}
+use Rattle.script_lang.specs.declared.script.Event.TheVariants.{Round, Learn}
 use Rattle.script_lang.specs.Number.{IsFromOneTo}
 
 -- a number of a client, a server or a packet, as a line may give it

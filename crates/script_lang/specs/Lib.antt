@@ -6,3 +6,6 @@ pub mod Reading
 pub mod Printing
 pub mod Rows
 pub mod Laws
+pub mod Live
+pub mod LiveRows
+pub mod LiveLaws

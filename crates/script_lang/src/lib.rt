@@ -5,21 +5,24 @@
 //! stated as the printing of a script; a reader answers the script that is spelt so, or the number of the first line
 //! that is in no script, and a printer writes each line. The texts of entries, replies and answers, which transcripts
 //! have too, are printed here.
+//!
+//! Live input has lines of its own: the first, `live C`, gives the number of clients, and each of the others is a call of
+//! one of them. Its grammar is stated, and read, in the same way.
 #![tactic(auto)]
 
 mod events;
 pub mod laws;
 mod line;
+mod live;
 mod numbers;
 mod pairs;
 mod print;
 mod put;
 mod read;
 mod script;
-#[cfg(test)]
-mod tests;
 mod words;
 
+pub use live::{LiveCall, LiveCalls, LivePlan, read_live};
 pub use print::{print_first, print_line};
 pub use put::{put_answer_text, put_done, put_reply_text};
 pub use read::{ScriptStop, read_script};
