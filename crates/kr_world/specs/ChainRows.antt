@@ -41,7 +41,8 @@ down_the_chain_text =
 -- twice
 abbrev pub entries_come_again : Script
 entries_come_again =
-    of_three (create 1 ∷ Deliver 1 ∷ Deliver 2 ∷ Deliver 4 ∷ Deliver 5 ∷ create 1 ∷ Deliver 7 ∷ Deliver 8 ∷ Deliver 10 ∷ Deliver 10 ∷ Deliver 4 ∷ Deliver 8 ∷ Deliver 11 ∷ [])
+    of_three (create 1 ∷ Deliver 1 ∷ Deliver 2 ∷ Deliver 4 ∷ Deliver 5
+    ∷ create 1 ∷ Deliver 7 ∷ Deliver 8 ∷ Deliver 10 ∷ Deliver 10 ∷ Deliver 4 ∷ Deliver 8 ∷ Deliver 11 ∷ [])
 
 abbrev pub entries_come_again_text : List ℕ
 entries_come_again_text =
@@ -77,7 +78,8 @@ of_two events = record { servers = 2; clients = 1; events = events }
 -- again at the last server, which replies once more
 abbrev pub lost_on_the_way : Script
 lost_on_the_way =
-    of_two (create 1 ∷ Deliver 1 ∷ Lose 2 ∷ Deliver 2 ∷ Tick (Some (record { 0 = 1 })) ∷ Deliver 3 ∷ Lose 4 ∷ retry 1 2 ∷ Deliver 6 ∷ Deliver 7 ∷ [])
+    of_two (create 1 ∷ Deliver 1 ∷ Lose 2 ∷ Deliver 2 ∷ Tick (Some (record { 0 = 1 }))
+    ∷ Deliver 3 ∷ Lose 4 ∷ retry 1 2 ∷ Deliver 6 ∷ Deliver 7 ∷ [])
 
 abbrev pub lost_on_the_way_text : List ℕ
 lost_on_the_way_text =

@@ -41,7 +41,8 @@ pub record HasAsked (past : List Turn) (caller : ClientId) (q part : ℕ) (pairs
   pub seen_is : client.seen ≡ seen
 
 -- the client asked this, and what it had seen is history
-pub record IsAsked (past : List Turn) (history : List Entry) (caller : ClientId) (q part : ℕ) (pairs : List (EventId × EventId)) : Type 0 where
+pub record IsAsked
+    (past : List Turn) (history : List Entry) (caller : ClientId) (q part : ℕ) (pairs : List (EventId × EventId)) : Type 0 where
   pub seen : ℕ
   pub asked : HasAsked past caller q part pairs seen
   pub within : seen ≤ length history
@@ -157,7 +158,8 @@ pub record WasNoLater (now : Client) (turn : Turn) : Type 0 where
 -- the client's queries: it has none open beside a command, and what it has open it has asked last
 pub record AreTrueQueries (past : List Turn) (client : Client) : Type 0 where
   pub alone : (pairs : List (EventId × EventId)) → client.asking ≡ Some pairs → client.call ≡ None
-  pub asked : (pairs : List (EventId × EventId)) → client.asking ≡ Some pairs → HasAsked past client.id client.q client.part pairs client.seen
+  pub asked :
+      (pairs : List (EventId × EventId)) → client.asking ≡ Some pairs → HasAsked past client.id client.q client.part pairs client.seen
   pub last : All (WasNoLater client) past
 
 -- the client at an index has seen only history, and remembers what is true

@@ -6,11 +6,12 @@ use Rattle.kr_order.specs.declared.ids.EventId.{EventId}
 use Rattle.kr_order.specs.declared.history.Command.{Command}
 use Rattle.kr_order.specs.declared.message.Packet.{Packet}
 use Rattle.kr_protocol.specs.Client.{Client, is_busy}
-use Rattle.kr_protocol.specs.Manager.{names}
+use Rattle.kr_order.specs.View.{names}
 use Rattle.kr_protocol.specs.Server.{Server}
 use Rattle.script_lang.specs.declared.script.Event.TheVariants.{Call, Query, Retry, Deliver, Tick, Work, Notice, Join, Round}
 use Rattle.kr_world.specs.declared.refusal.Refusal.TheVariants.{BagFull}
-use Rattle.kr_world.specs.World.{World, client_at, server_at, packet_at, is_marked, is_stopped, has_stopped}
+use Rattle.kr_order.specs.Marks.{is_marked}
+use Rattle.kr_world.specs.World.{World, client_at, server_at, packet_at, is_stopped, has_stopped}
 use Rattle.kr_world.specs.Step.{is_full, most_servers, refuses, step}
 
 -- from 65,000 packets or 268,435,456 bytes of packets on each call and each query of an idle client, each retry of an

@@ -1,5 +1,6 @@
 -- The laws of a run, stated over its events, what was told, and the histories after its steps.
-use Rattle.std.specs.Prelude.{length, ◌≡◌, ℕ, ◌+◌, ◌-◌, ◌<◌, ◌≤◌, List, [], ◌∷◌, ◌++◌, ◌==◌, filter, take, if◌then◌else◌, slice_get, All, Option, None, Some}
+use Rattle.std.specs.Prelude.{length, ◌≡◌, ℕ, ◌+◌, ◌-◌, ◌<◌, ◌≤◌, List, [], ◌∷◌, ◌++◌, ◌==◌, filter}
+use Rattle.std.specs.Prelude.{take, if◌then◌else◌, slice_get, All, AllPairs, Option, None, Some}
 use Rattle.kr_order.specs.declared.ids.ClientId.{ClientId}
 use Rattle.kr_order.specs.declared.history.Command.{Command}
 use Rattle.kr_order.specs.declared.history.Entry.{Entry}
@@ -22,6 +23,7 @@ use Rattle.kr_world.specs.Step.{Told, Part}
 use Rattle.script_lang.specs.declared.script.Script.{Script}
 use Rattle.script_lang.specs.Script.{IsScript}
 use Rattle.kr_world.specs.Run.{Turn, run_of}
+use Rattle.kr_world.specs.Seen.{Telling, a_reply, a_part, listener, named, tellings_of, heard_of, greatest}
 
 -- the history after a step
 abbrev pub history_after : Turn → List Entry
@@ -48,8 +50,12 @@ IsNumbered begun entries =
 
 -- One place: histories only grow, and each client's entries are the commands that it began, each once, in order.
 pub record HasOnePlace (run : List Turn) : Type 0 where
-  pub grows : (i j : ℕ) (earlier later : Turn) → i ≤ j → slice_get run i ≡ Some earlier → slice_get run j ≡ Some later → IsPrefix (history_after earlier) (history_after later)
-  pub numbered : (i : ℕ) (turn : Turn) → slice_get run i ≡ Some turn → (client : ClientId) → IsNumbered (begun_by client (take (i + 1) run)) (entries_of client (history_after turn))
+  pub grows :
+      (i j : ℕ) (earlier later : Turn) → i ≤ j → slice_get run i ≡ Some earlier → slice_get run j ≡ Some later
+      → IsPrefix (history_after earlier) (history_after later)
+  pub numbered :
+      (i : ℕ) (turn : Turn) → slice_get run i ≡ Some turn → (client : ClientId)
+      → IsNumbered (begun_by client (take (i + 1) run)) (entries_of client (history_after turn))
 
 -- the greatest place or entry that a client has seen
 abbrev pub seen_of : Option Client → ℕ
@@ -72,7 +78,8 @@ pub record IsToldTruly (history : List Entry) (seen : ℕ) (told : Told) : Type 
 -- Told reply: what a step tells a client is true, and newer than all that it had seen.
 abbrev pub HasTrueReplies : List Turn → Type 0
 HasTrueReplies run =
-    (i : ℕ) (turn : Turn) → slice_get run i ≡ Some turn → All (λ told. IsToldTruly (history_after turn) (seen_by turn told.client) told) turn.outcome.told
+    (i : ℕ) (turn : Turn) → slice_get run i ≡ Some turn
+    → All (λ told. IsToldTruly (history_after turn) (seen_by turn told.client) told) turn.outcome.told
 
 -- Acyclic: after every entry of every history no event is before itself.
 abbrev pub StaysAcyclic : List Turn → Type 0
@@ -82,7 +89,8 @@ StaysAcyclic run =
 -- from this entry on a is before b, in this history and in every later one of the run
 abbrev pub StaysBefore : List Turn → ℕ → ℕ → EventId → EventId → Type 0
 StaysBefore run i n a b =
-    (j : ℕ) (later : Turn) → i ≤ j → slice_get run j ≡ Some later → (m : ℕ) → n ≤ m → m ≤ length (history_after later) → IsBefore (take m (history_after later)) a.0 b.0
+    (j : ℕ) (later : Turn) → i ≤ j → slice_get run j ≡ Some later → (m : ℕ) → n ≤ m → m ≤ length (history_after later)
+    → IsBefore (take m (history_after later)) a.0 b.0
 
 -- Before holds: a told Before, and a told After the other way round, holds from its entry on and is never contradicted.
 abbrev pub KeepsBefore : List Turn → ℕ → ToldPart → Answer → Type 0
@@ -124,12 +132,43 @@ abbrev pub HasTrueParts : List Turn → Type 0
 HasTrueParts run =
     (i : ℕ) (turn : Turn) → slice_get run i ≡ Some turn → All (IsPartTrue run i turn) turn.outcome.parts
 
+-- what may be told to a client that was told of this place or entry: a reply of a later place, or a part that is current
+abbrev pub MayFollow : ℕ → Telling → Type 0
+MayFollow n (a_reply told) = n < told.reply.placed.place
+MayFollow n (a_part part) = IsCurrent n part.part part.part.answer
+
+-- where both are told to one client, the later may follow the earlier
+abbrev pub AreInOrder : Telling → Telling → Type 0
+AreInOrder earlier later = listener earlier ≡ listener later → MayFollow (named earlier) later
+
+-- In order: a told reply is of a place past each place and entry that its client was told before, and a told Concurrent
+-- or Unknown of an entry no earlier than these.
+abbrev pub IsToldInOrder : List Turn → Type 0
+IsToldInOrder run = AllPairs AreInOrder (tellings_of run)
+
+-- Seen: what a client has seen, before a step and after it, is the greatest of all that it has heard of until then.
+pub record SeesWhatItHears (run : List Turn) : Type 0 where
+  pub before :
+      (i : ℕ) (turn : Turn)
+      → slice_get run i ≡ Some turn
+      → (client : ClientId)
+      → 1 ≤ client.0
+      → seen_by turn client ≡ greatest (heard_of client (take i run))
+  pub after :
+      (i : ℕ) (turn : Turn)
+      → slice_get run i ≡ Some turn
+      → (client : ClientId)
+      → 1 ≤ client.0
+      → seen_of (client_at turn.outcome.after client) ≡ greatest (heard_of client (take (i + 1) run))
+
 -- the laws of a run
 pub record IsLawful (run : List Turn) : Type 0 where
   pub one_place : HasOnePlace run
   pub told_reply : HasTrueReplies run
   pub acyclic : StaysAcyclic run
   pub parts : HasTrueParts run
+  pub in_order : IsToldInOrder run
+  pub seen : SeesWhatItHears run
 
 -- every run of a script is lawful
 abbrev pub RunsAreLawful : Type 0

@@ -5,6 +5,7 @@ pub mod Lines
 pub mod Round
 pub mod Run
 pub mod Counts
+pub mod Seen
 pub mod Rows
 pub mod ChainRows
 pub mod QueryRows
@@ -12,7 +13,9 @@ pub mod StopRows
 pub mod JoinRows
 pub mod RoundRows
 pub mod HeldRows
+pub mod SeenRows
 pub mod Sound
 pub mod Lawful
 pub mod Facts
 pub mod FullBag
+pub mod EveryWorld

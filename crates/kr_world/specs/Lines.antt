@@ -19,7 +19,8 @@ grown_line before now = if nat_lt before now then line (codes "grown " ++ decima
 
 abbrev pub told_line : Told → List ℕ
 told_line told =
-    line (codes "told " ++ client_text told.client ++ codes " " ++ decimal told.reply.seq ++ codes " at " ++ decimal told.reply.placed.place ++ codes " " ++ reply_text told.reply.placed.reply)
+    line (codes "told " ++ client_text told.client ++ codes " " ++ decimal told.reply.seq
+    ++ codes " at " ++ decimal told.reply.placed.place ++ codes " " ++ reply_text told.reply.placed.reply)
 
 abbrev pub told_lines : List Told → List ℕ
 told_lines [] = []
@@ -36,7 +37,10 @@ part_lines (part ∷ more) = part_line part ++ part_lines more
 abbrev pub shown_line : Option Shown → List ℕ
 shown_line None = []
 shown_line (Some shown) =
-    line (codes "show " ++ server_text shown.server ++ codes " view " ++ decimal shown.view ++ codes " log " ++ decimal shown.log ++ codes " done " ++ decimal shown.done ++ codes " held " ++ decimal shown.held ++ codes " pairs " ++ decimal shown.pairs ++ codes " waiting " ++ decimal shown.waiting)
+    line (codes "show " ++ server_text shown.server ++ codes " view " ++ decimal shown.view
+    ++ codes " log " ++ decimal shown.log ++ codes " done " ++ decimal shown.done
+    ++ codes " held " ++ decimal shown.held ++ codes " pairs " ++ decimal shown.pairs
+    ++ codes " waiting " ++ decimal shown.waiting)
 
 abbrev pub refused_line : Option Refusal → List ℕ
 refused_line None = []
@@ -44,7 +48,8 @@ refused_line (Some why) = line (codes "refused " ++ refusal_word why)
 
 abbrev pub packet_line : ℕ → Packet → List ℕ
 packet_line k packet =
-    line (codes "packet " ++ decimal k ++ codes " " ++ node_text packet.from ++ codes " " ++ node_text packet.to ++ codes " " ++ message_text packet.message)
+    line (codes "packet " ++ decimal k ++ codes " " ++ node_text packet.from ++ codes " " ++ node_text packet.to
+    ++ codes " " ++ message_text packet.message)
 
 -- the packets that follow the first `sent` ones
 abbrev pub packet_lines : ℕ → List Packet → List ℕ
@@ -55,7 +60,9 @@ packet_lines sent (packet ∷ more) = packet_line (sent + 1) packet ++ packet_li
 -- was refused, what was sent
 abbrev pub step_lines : World → Outcome → List ℕ
 step_lines before outcome =
-    grown_line (length before.history) (length outcome.after.history) ++ told_lines outcome.told ++ part_lines outcome.parts ++ shown_line outcome.shown ++ refused_line outcome.refused ++ packet_lines (length before.bag) (drop (length before.bag) outcome.after.bag)
+    grown_line (length before.history) (length outcome.after.history)
+    ++ told_lines outcome.told ++ part_lines outcome.parts ++ shown_line outcome.shown ++ refused_line outcome.refused
+    ++ packet_lines (length before.bag) (drop (length before.bag) outcome.after.bag)
 
 abbrev pub done_lines : List DoneEntry → List ℕ
 done_lines [] = []

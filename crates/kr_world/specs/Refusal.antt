@@ -1,7 +1,9 @@
 -- The words of refusals, as a transcript has them.
 use Rattle.std.specs.Prelude.{ℕ, List, codes}
 use Rattle.kr_world.specs.declared.refusal.Refusal.{Refusal}
-use Rattle.kr_world.specs.declared.refusal.Refusal.TheVariants.{NoSuchClient, NoSuchServer, NoSuchPacket, Stopped, Busy, NothingOpen, Lost, LastServer, NotStopped, NotMember, JoinerThere, ServersSpent, BagFull}
+use Rattle.kr_world.specs.declared.refusal.Refusal.TheVariants.{NoSuchClient, NoSuchServer, NoSuchPacket, Stopped}
+use Rattle.kr_world.specs.declared.refusal.Refusal.TheVariants.{Busy, NothingOpen, Lost, LastServer, NotStopped}
+use Rattle.kr_world.specs.declared.refusal.Refusal.TheVariants.{NotMember, JoinerThere, ServersSpent, BagFull}
 
 abbrev pub refusal_word : Refusal → List ℕ
 refusal_word NoSuchClient = codes "NoSuchClient"

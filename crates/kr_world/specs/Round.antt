@@ -1,5 +1,6 @@
 -- Rounds: the plain steps that a line `round` stands for.
-use Rattle.std.specs.Prelude.{ℕ, ◌≤◌, Bool, true, false, not, ◌&&◌, is_some, if◌then◌else◌, List, [], ◌∷◌, ◌++◌, length, map, filter, flat_map, ◌≡◌, Option, None, Some}
+use Rattle.std.specs.Prelude.{ℕ, ◌≤◌, Bool, true, false, not, ◌&&◌, is_some, if◌then◌else◌, List, []}
+use Rattle.std.specs.Prelude.{◌∷◌, ◌++◌, length, map, filter, flat_map, ◌≡◌, Option, None, Some}
 use Rattle.kr_order.specs.declared.ids.ClientId.{ClientId}
 use Rattle.kr_order.specs.declared.ids.ServerId.{ServerId}
 use Rattle.kr_order.specs.declared.message.Packet.{Packet}
@@ -7,7 +8,8 @@ use Rattle.kr_order.specs.Numbers.{numbers_to}
 use Rattle.kr_protocol.specs.Client.{Client, is_busy, head, last, learns}
 use Rattle.script_lang.specs.declared.script.Event.{Event}
 use Rattle.script_lang.specs.declared.script.Event.TheVariants.{Retry, Deliver, Tick, Work, Round, Learn}
-use Rattle.kr_world.specs.World.{World, client_at, packet_at, is_marked, is_stopped, has_stopped}
+use Rattle.kr_order.specs.Marks.{is_marked}
+use Rattle.kr_world.specs.World.{World, client_at, packet_at, is_stopped, has_stopped}
 use Rattle.kr_world.specs.Step.{is_full, step}
 
 -- the world after the steps of these events, one after the other

@@ -1,6 +1,7 @@
 -- What holds of every world of a run, and its code relies on: how the servers' logs, what is acknowledged, the
 -- history and the packets between servers stand to each other.
-use Rattle.std.specs.Prelude.{ℕ, ◌+◌, ◌-◌, ◌*◌, ◌≡◌, ◌≤◌, ◌<◌, ◌⊎◌, Bool, true, false, length, take, drop, List, [], All, slice_get, None, Some}
+use Rattle.std.specs.Prelude.{ℕ, ◌+◌, ◌-◌, ◌*◌, ◌≡◌, ◌≤◌, ◌<◌, ◌⊎◌, Bool, true, false, length}
+use Rattle.std.specs.Prelude.{take, drop, List, [], All, slice_get, None, Some}
 use Rattle.kr_order.specs.declared.ids.ServerId.{ServerId}
 use Rattle.kr_order.specs.declared.history.Entry.{Entry}
 use Rattle.kr_order.specs.declared.message.Node as nodes
@@ -10,9 +11,9 @@ use Rattle.kr_order.specs.declared.message.Message.TheVariants.{Append, Ack, New
 use Rattle.kr_order.specs.declared.message.Packet.{Packet}
 use Rattle.kr_order.specs.declared.view.View.{View}
 use Rattle.kr_order.specs.Prefix.{IsPrefix}
-use Rattle.kr_order.specs.View.{in_chain, last_member}
+use Rattle.kr_order.specs.View.{in_chain, last_member, names}
 use Rattle.script_lang.specs.declared.script.Event.{Event}
-use Rattle.kr_protocol.specs.Manager.{names, views_of}
+use Rattle.kr_protocol.specs.Manager.{views_of}
 use Rattle.kr_protocol.specs.Evolves.{Evolves}
 use Rattle.kr_protocol.specs.Server.{Server, most_entries, most_waiting, acknowledged, is_at_tail, prev, behind, view_number}
 use Rattle.kr_protocol.specs.Client.{Client}
@@ -156,7 +157,7 @@ NeedCovers world =
     → length world.history ≤ server.need
 
 -- a member of the view has not stopped
-pub record IsServed (stopped : ServerId → Bool) (view : View) : Type 0 where
+pub record SomeMemberRuns (stopped : ServerId → Bool) (view : View) : Type 0 where
   pub member : ServerId
   pub in_it : in_chain view member ≡ true
   pub runs : stopped member ≡ false
@@ -166,7 +167,7 @@ pub record IsSound (world : World) : Type 0 where
   pub evolves : Evolves (is_stopped world) world.manager
   pub made : world.manager.made ≡ length world.servers
   pub few : length world.servers ≤ 64
-  pub served : IsServed (is_stopped world) world.manager.current
+  pub served : SomeMemberRuns (is_stopped world) world.manager.current
   pub servers :
       (i : ℕ) (server : Server)
       → slice_get world.servers i ≡ Some server

@@ -1,5 +1,6 @@
 -- What an event does to the world: why it is refused, or else what it does.
-use Rattle.std.specs.Prelude.{ℕ, ◌-◌, List, [], ◌∷◌, ◌++◌, length, nat_le, ◌&&◌, ◌||◌, not, true, false, is_some, if◌then◌else◌, slice_set, map, Bool, Option, None, Some}
+use Rattle.std.specs.Prelude.{ℕ, ◌-◌, List, [], ◌∷◌, ◌++◌, length, nat_le, ◌&&◌, ◌||◌, not, true, false}
+use Rattle.std.specs.Prelude.{is_some, if◌then◌else◌, slice_set, map, Bool, Option, None, Some}
 use Rattle.kr_order.specs.declared.ids.ClientId.{ClientId}
 use Rattle.kr_order.specs.declared.ids.ServerId.{ServerId}
 use Rattle.kr_order.specs.declared.history.Command.{Command}
@@ -15,14 +16,18 @@ use Rattle.kr_protocol.specs.Reaction.{Reaction}
 use Rattle.kr_protocol.specs.Server.{Server, newcomer, acknowledged, view_number, server_takes, server_works, server_ticks}
 use Rattle.kr_protocol.specs.Client.{Client, Hearing, is_busy, unheard, begins, asks, retries, learns, client_takes}
 use Rattle.script_lang.specs.declared.script.Event.{Event}
-use Rattle.script_lang.specs.declared.script.Event.TheVariants.{Call, Query, Retry, Deliver, Lose, Tick, Work, Stop, Notice, Show, Join, Round, Learn}
-use Rattle.kr_order.specs.View.{in_chain}
-use Rattle.kr_protocol.specs.Manager.{Manager, names, members_but, may_promote, next_server, removes, adds, promotes, announces}
+use Rattle.script_lang.specs.declared.script.Event.TheVariants.{Call, Query, Retry, Deliver, Lose, Tick, Work, Stop, Notice, Show, Join}
+use Rattle.script_lang.specs.declared.script.Event.TheVariants.{Round, Learn}
+use Rattle.kr_order.specs.View.{in_chain, names}
+use Rattle.kr_protocol.specs.Manager.{Manager, members_but, may_promote, next_server, removes, adds, promotes, announces}
 use Rattle.kr_order.specs.Held.{held_events, held_pairs}
 use Rattle.kr_world.specs.declared.shown.Shown.{Shown}
 use Rattle.kr_world.specs.declared.refusal.Refusal.{Refusal}
-use Rattle.kr_world.specs.declared.refusal.Refusal.TheVariants.{NoSuchClient, NoSuchServer, NoSuchPacket, Stopped, Busy, NothingOpen, Lost, LastServer, NotStopped, NotMember, JoinerThere, ServersSpent, BagFull}
-use Rattle.kr_world.specs.World.{World, server_at, client_at, packet_at, is_stopped, has_stopped, is_marked, marked, with_packets, bytes_of, longest}
+use Rattle.kr_world.specs.declared.refusal.Refusal.TheVariants.{NoSuchClient, NoSuchServer, NoSuchPacket, Stopped, Busy, NothingOpen}
+use Rattle.kr_world.specs.declared.refusal.Refusal.TheVariants.{Lost, LastServer, NotStopped, NotMember, JoinerThere, ServersSpent}
+use Rattle.kr_world.specs.declared.refusal.Refusal.TheVariants.{BagFull}
+use Rattle.kr_order.specs.Marks.{is_marked, marked}
+use Rattle.kr_world.specs.World.{World, server_at, client_at, packet_at, is_stopped, has_stopped, with_packets, bytes_of, longest}
 
 -- from this many packets on, and from this many bytes of packets on, no step that may send is taken
 abbrev pub bag_limit : ℕ
@@ -62,15 +67,21 @@ abbrev pub turn_refusal : World → ServerId → Option Server → Option Refusa
 turn_refusal world id server = server_refusal world id server (if_full world)
 
 -- a packet is not delivered to a server that has stopped, nor where it was lost
+abbrev pub arrival_refusal : World → ℕ → nodes.Node → Option Refusal
+arrival_refusal world k to =
+    if has_stopped world to then Some Stopped else if is_marked world.lost k then Some Lost else if_full world
+
 abbrev pub deliver_refusal : World → ℕ → Option Packet → Option Refusal
 deliver_refusal world k None = Some NoSuchPacket
-deliver_refusal world k (Some packet) =
-    if has_stopped world packet.to then Some Stopped else if is_marked world.lost k then Some Lost else if_full world
+deliver_refusal world k (Some packet) = arrival_refusal world k packet.to
 
 -- nor is it lost again
+abbrev pub loss_refusal : World → ℕ → Option Refusal
+loss_refusal world k = if is_marked world.lost k then Some Lost else None
+
 abbrev pub lose_refusal : World → ℕ → Option Packet → Option Refusal
 lose_refusal world k None = Some NoSuchPacket
-lose_refusal world k (Some packet) = if is_marked world.lost k then Some Lost else None
+lose_refusal world k (Some packet) = loss_refusal world k
 
 -- the manager's turn, or a server's
 abbrev pub tick_refusal : World → Option ServerId → Option Refusal
@@ -97,7 +108,9 @@ stop_refusal world id (Some server) =
 abbrev pub notice_refusal : World → ServerId → Option Server → Option Refusal
 notice_refusal world id None = Some NoSuchServer
 notice_refusal world id (Some server) =
-    if not (is_stopped world id) then Some NotStopped else if not (names world.manager.current server.id) then Some NotMember else if_full world
+    if not (is_stopped world id) then Some NotStopped
+    else if not (names world.manager.current server.id) then Some NotMember
+    else if_full world
 
 -- so many servers are made at the most
 abbrev pub most_servers : ℕ
@@ -106,7 +119,9 @@ most_servers = 64
 -- one server joins at a time
 abbrev pub join_refusal : World → Option Refusal
 join_refusal world =
-    if is_some world.manager.current.joiner then Some JoinerThere else if nat_le most_servers world.manager.made then Some ServersSpent else if_full world
+    if is_some world.manager.current.joiner then Some JoinerThere
+    else if nat_le most_servers world.manager.made then Some ServersSpent
+    else if_full world
 
 -- a server that has stopped shows nothing
 abbrev pub show_refusal : World → ServerId → Option Server → Option Refusal
@@ -180,7 +195,8 @@ parts_to client parts = map (λ part. record { client = client; part = part }) p
 -- what a client does: its node afterwards, its packets in the bag, and what it is told
 abbrev pub client_hears : World → ClientId → Hearing → Outcome
 client_hears world client hearing =
-    record (client_sends world client (record { after = hearing.after; sent = hearing.sent })) { told = told_to client hearing.told; parts = parts_to client hearing.parts }
+    record (client_sends world client (record { after = hearing.after; sent = hearing.sent }))
+    { told = told_to client hearing.told; parts = parts_to client hearing.parts }
 
 -- the client's query: what it remembers is told at once
 abbrev pub client_asks : World → ClientId → ServerId → List (EventId × EventId) → Option Client → Outcome

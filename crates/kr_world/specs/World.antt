@@ -1,5 +1,5 @@
 -- The world of a run: all nodes, all packets ever sent, and the history.
-use Rattle.std.specs.Prelude.{ℕ, ◌-◌, Bool, true, false, List, [], ◌∷◌, ◌++◌, length, map, nat_lt, if◌then◌else◌, slice_get, slice_set, slice_index_or, sum_by, Option}
+use Rattle.std.specs.Prelude.{ℕ, ◌-◌, Bool, false, List, [], ◌∷◌, ◌++◌, length, map, nat_lt, if◌then◌else◌, slice_get, sum_by, Option}
 use Rattle.kr_order.specs.declared.ids.ClientId.{ClientId}
 use Rattle.kr_order.specs.declared.ids.ServerId.{ServerId}
 use Rattle.kr_order.specs.declared.history.Entry.{Entry}
@@ -7,6 +7,7 @@ use Rattle.kr_order.specs.declared.message.Packet.{Packet}
 use Rattle.kr_order.specs.declared.message.Node as nodes
 use Rattle.kr_order.specs.declared.message.Node.TheVariants.{Manager as AtManager, Client as AtClient, Server as AtServer}
 use Rattle.kr_order.specs.Size.{packet_size}
+use Rattle.kr_order.specs.Marks.{is_marked}
 use Rattle.kr_order.specs.View.{first_view}
 use Rattle.kr_order.specs.Numbers.{numbers_to}
 use Rattle.kr_protocol.specs.Manager.{Manager, new_manager}
@@ -28,7 +29,16 @@ pub record World : Type 0 where
 -- the world of so many servers and clients, before the first step
 abbrev pub first_world : ℕ → ℕ → World
 first_world servers clients =
-    record { manager = new_manager servers; servers = map (λ n. founder (first_view servers) (record { 0 = n })) (numbers_to servers); stopped = map (λ n. false) (numbers_to servers); clients = map (λ n. new_client (first_view servers) (record { 0 = n })) (numbers_to clients); bag = []; lost = []; delivered = []; history = [] }
+    record {
+      manager = new_manager servers;
+      servers = map (λ n. founder (first_view servers) (record { 0 = n })) (numbers_to servers);
+      stopped = map (λ n. false) (numbers_to servers);
+      clients = map (λ n. new_client (first_view servers) (record { 0 = n })) (numbers_to clients);
+      bag = [];
+      lost = [];
+      delivered = [];
+      history = [];
+    }
 
 abbrev pub server_at : World → ServerId → Option Server
 server_at world server = slice_get world.servers (server.0 - 1)
@@ -39,10 +49,6 @@ client_at world client = slice_get world.clients (client.0 - 1)
 abbrev pub packet_at : World → ℕ → Option Packet
 packet_at world k = slice_get world.bag (k - 1)
 
--- the one of this number was marked
-abbrev pub is_marked : List Bool → ℕ → Bool
-is_marked marks k = slice_index_or marks (k - 1) false
-
 -- the server has stopped
 abbrev pub is_stopped : World → ServerId → Bool
 is_stopped world server = is_marked world.stopped server.0
@@ -52,10 +58,6 @@ abbrev pub has_stopped : World → nodes.Node → Bool
 has_stopped world AtManager = false
 has_stopped world (AtClient client) = false
 has_stopped world (AtServer server) = is_stopped world server
-
--- the marks with one at this number
-abbrev pub marked : List Bool → ℕ → List Bool
-marked marks k = slice_set marks (k - 1) true
 
 -- the packets go into the bag, and are neither lost nor delivered
 abbrev pub with_packets : World → List Packet → World

@@ -1,15 +1,22 @@
 //! Worked runs: what the definitions print for a script, against a text that was computed by hand.
 
-ghost use Rattle.std.specs.Prelude.{◌≡◌};
+ghost use Rattle.std.specs.Prelude.{◌≡◌, [], ◌∷◌};
 ghost use Rattle.kr_world.specs.FullBag.{AFullBagRefuses};
 ghost use Rattle.kr_world.specs.Run.{text_of};
-ghost use Rattle.kr_world.specs.ChainRows.{three_servers, three_servers_text, down_the_chain, down_the_chain_text, entries_come_again, entries_come_again_text, lost_on_the_way, lost_on_the_way_text};
+ghost use Rattle.kr_world.specs.ChainRows.{three_servers, three_servers_text, down_the_chain, down_the_chain_text};
+ghost use Rattle.kr_world.specs.ChainRows.{entries_come_again, entries_come_again_text, lost_on_the_way};
+ghost use Rattle.kr_world.specs.ChainRows.{lost_on_the_way_text};
 ghost use Rattle.kr_world.specs.HeldRows.{events_released, events_released_text};
-ghost use Rattle.kr_world.specs.QueryRows.{concurrent_events, concurrent_events_text, bound_events, bound_events_text, asked_at_the_head, asked_at_the_head_text};
+ghost use Rattle.kr_world.specs.QueryRows.{concurrent_events, concurrent_events_text, bound_events, bound_events_text};
+ghost use Rattle.kr_world.specs.QueryRows.{asked_at_the_head, asked_at_the_head_text};
 ghost use Rattle.kr_world.specs.JoinRows.{tail_joins, tail_joins_text};
 ghost use Rattle.kr_world.specs.RoundRows.{two_rounds, two_rounds_text};
-ghost use Rattle.kr_world.specs.StopRows.{head_stops, head_stops_text, tail_stops, tail_stops_text, one_of_two_is_new, one_of_two_is_new_text};
-ghost use Rattle.kr_world.specs.Rows.{create_an_event, create_an_event_text, request_delivered_twice, request_delivered_twice_text, request_tried_again, request_tried_again_text, refused_steps, refused_steps_text, two_events, two_events_text};
+ghost use Rattle.kr_world.specs.SeenRows.{unsure_of_all, unsure_of_all_text, told_there, heard_there, seen_there};
+ghost use Rattle.kr_world.specs.StopRows.{head_stops, head_stops_text, tail_stops, tail_stops_text};
+ghost use Rattle.kr_world.specs.StopRows.{one_of_two_is_new, one_of_two_is_new_text};
+ghost use Rattle.kr_world.specs.Rows.{create_an_event, create_an_event_text, request_delivered_twice};
+ghost use Rattle.kr_world.specs.Rows.{request_delivered_twice_text, request_tried_again, request_tried_again_text};
+ghost use Rattle.kr_world.specs.Rows.{refused_steps, refused_steps_text, two_events, two_events_text};
 
 /// One server, one client, one create.
 pub fn one_create()
@@ -80,6 +87,14 @@ pub fn what_is_lost_comes_again()
 /// view; and what is told for good is told by the cache the next time.
 pub fn an_unsure_answer_is_asked_again()
     ensures { text_of asked_at_the_head ≡ asked_at_the_head_text }
+{}
+
+/// An answer that is unsure of all pairs tells its client nothing, and what it names has been seen all the same.
+pub fn what_is_unsure_is_seen()
+    ensures text { text_of unsure_of_all ≡ unsure_of_all_text }
+    ensures first { (told_there 1 ≡ 1 ∷ 2 ∷ []) × (heard_there 1 ≡ 1 ∷ 2 ∷ []) }
+    ensures second { (told_there 2 ≡ 2 ∷ []) × (heard_there 2 ≡ 1 ∷ 2 ∷ []) }
+    ensures seen { seen_there ≡ 2 ∷ 2 ∷ [] }
 {}
 
 /// An event without a reference is held while one before it is live, and its pairs are, and no longer; that it was before

@@ -1,4 +1,4 @@
-use Rattle.kr_world.proofs.CountLemmas.{queries_counted}
+use Rattle.kr_world.proofs.steps.CountLemmas.{queries_counted}
 use Rattle.kr_world.proofs.laws.queries_are_counted.Goals as goal
 
 pub returns : goal.returns

@@ -1,4 +1,4 @@
-use Rattle.kr_world.proofs.LawfulLemmas.{runs_lawful}
+use Rattle.kr_world.proofs.runs.LawfulLemmas.{runs_lawful}
 use Rattle.kr_world.proofs.laws.runs_are_lawful.Goals as goal
 
 pub returns : goal.returns

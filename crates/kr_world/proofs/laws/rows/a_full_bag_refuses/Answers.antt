@@ -1,4 +1,4 @@
-use Rattle.kr_world.proofs.FullBagLemmas.{full_refuses}
+use Rattle.kr_world.proofs.steps.FullBagLemmas.{full_refuses}
 use Rattle.kr_world.proofs.laws.rows.a_full_bag_refuses.Goals as goal
 
 pub returns : goal.returns
