@@ -1,0 +1,12 @@
+//! Calls of the graph's crates, each made once with ample memory and compared with what it has to answer.
+//!
+//! A body that always answered want of memory would meet its contract; these tests refuse it. They stand apart from
+//! the crates that they call, since the tests of a crate prove the whole crate once more.
+#![tactic(auto)]
+
+#[cfg(test)]
+mod graph;
+#[cfg(test)]
+mod references;
+#[cfg(test)]
+mod search;

@@ -1,0 +1,10 @@
+//! Calls of the state of the order and of its workers, each made once with ample memory and compared with what it has to answer.
+//!
+//! A body that always answered want of memory would meet its contract; these tests refuse it. They stand apart from
+//! the crates that they call, since the tests of a crate prove the whole crate once more.
+#![tactic(auto)]
+
+#[cfg(test)]
+mod state;
+#[cfg(test)]
+mod workers;
