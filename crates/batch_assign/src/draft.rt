@@ -3,9 +3,11 @@
 
 ghost use Rattle.std.specs.Prelude.{◌≡◌, ◌≤◌, ◌+◌, ◌&&◌, true, false, length, IfOk, OnOk};
 ghost use Rattle.std.specs.List.{All};
-ghost use Rattle.kr_order.specs.Batch.{is_must, forbids, with_pair, with_must, with_prefer, musts_from, prefers_from, contradicts, outcome_of, outcomes_from};
+ghost use Rattle.kr_order.specs.Batch.{is_must, forbids, with_pair, with_must, with_prefer, musts_from, prefers_from, contradicts};
+ghost use Rattle.kr_order.specs.Batch.{outcome_of, outcomes_from};
 ghost use Rattle.reach.specs.Search.{AreHeld};
-ghost use Rattle.batch_assign.specs.Plan.{IsPairHeld, IsBatchHeld, order_with, CanBeAdded, search_most, twice_each, must_one, prefer_one, musts_in, prefers_in};
+ghost use Rattle.batch_assign.specs.Plan.{IsPairHeld, IsBatchHeld, order_with, CanBeAdded, search_most, twice_each, must_one, prefer_one};
+ghost use Rattle.batch_assign.specs.Plan.{musts_in, prefers_in};
 
 use crate::Adds;
 use dep_graph::Graph;

@@ -11,8 +11,6 @@ mod adds;
 mod carry_out;
 mod decide;
 mod draft;
-#[cfg(test)]
-mod tests;
 
 pub use adds::{Adds, BatchStop, Plan};
 pub use carry_out::commit;

@@ -6,8 +6,6 @@
 
 mod intake;
 mod link;
-#[cfg(test)]
-mod tests;
 
 pub use intake::receive;
 pub use link::Link;

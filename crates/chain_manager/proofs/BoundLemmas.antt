@@ -7,8 +7,8 @@ use Rattle.std.proofs.lemmas.List.{length-map, append-nil, map-append}
 use Rattle.kr_order.specs.declared.ids.ServerId.{ServerId}
 use Rattle.kr_order.specs.declared.view.View.{View}
 use Rattle.kr_order.specs.Numbers.{numbers_to}
-use Rattle.kr_order.specs.View.{is_joiner, first_view}
-use Rattle.kr_protocol.specs.Manager.{names, members_but, joiner_but, without, view_packet, announces}
+use Rattle.kr_order.specs.View.{is_joiner, first_view, names}
+use Rattle.kr_protocol.specs.Manager.{members_but, joiner_but, without, view_packet, announces}
 use Rattle.chain_manager.specs.Bounds.{joiners, IsBounded}
 use Rattle.kr_protocol.proofs.ListLemmas.{length-numbers_to}
 use Rattle.kr_protocol.proofs.NameLemmas.{member, named_cases, fewer}

@@ -7,7 +7,5 @@
 #![tactic(auto)]
 
 mod manager;
-#[cfg(test)]
-mod tests;
 
 pub use manager::{Deny, MOST_SERVERS, Manager};

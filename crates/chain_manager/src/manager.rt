@@ -1,8 +1,10 @@
 //! The manager and its calls.
 
-ghost use Rattle.std.specs.Prelude.{◌≡◌, ◌≢◌, ◌↔◌, ◌≤◌, ◌<◌, ◌∷◌, [], true, false, not, ◌||◌, ◌==◌, ◌++◌, IsTrue, IsNone, map, IfOk, IfSome, OnOk, OnErr, Err, Some, None};
-ghost use Rattle.kr_order.specs.View.{in_chain, is_joiner, first_view, last_member};
-ghost use Rattle.kr_protocol.specs.Manager.{names, members_but, joiner_but, without, with_joiner, promoted, new_manager, goes_to, may_promote, removes, adds, promotes, next_server, view_packet, announces};
+ghost use Rattle.std.specs.Prelude.{◌≡◌, ◌≢◌, ◌↔◌, ◌≤◌, ◌<◌, ◌∷◌, [], true, false, IsTrue, IsNone, map, IfOk, IfSome, OnOk, OnErr, Err};
+ghost use Rattle.std.specs.Prelude.{Some, None};
+ghost use Rattle.kr_order.specs.View.{first_view, names};
+ghost use Rattle.kr_protocol.specs.Manager.{members_but, joiner_but, without, with_joiner, promoted, new_manager, goes_to, may_promote};
+ghost use Rattle.kr_protocol.specs.Manager.{removes, adds, promotes, next_server, view_packet, announces};
 ghost use Rattle.chain_manager.specs.Bounds.{IsBounded};
 
 use kr_order::{Copied, Listed, Message, NoMemory, Node, Packet, Packets, ServerId, Servers, View};
@@ -77,17 +79,6 @@ fn first_view(alloc: Global, servers: u32) -> Result<View, NoMemory>
         chain,
         joiner: None,
     })
-}
-
-// Whether the view names the server.
-fn is_named(view: &View, id: ServerId) -> bool
-    ensures { result ≡ names view.now id }
-{
-    let joins = match view.joiner {
-        Some(joiner) => joiner.0 == id.0,
-        None => false,
-    };
-    view.in_chain(id) || joins
 }
 
 // The members but this one.
@@ -197,7 +188,7 @@ impl Manager {
     pub fn names(&self, id: ServerId) -> bool
         ensures { result ≡ names self.now.current id }
     {
-        is_named(&self.current, id)
+        self.current.names(id)
     }
 
     /// The current view in a packet for each whom it names: the members in the order of the chain, then the joiner.
@@ -237,7 +228,7 @@ impl Manager {
         if !stopped {
             return Err(Deny::NotStopped);
         }
-        if !is_named(&self.current, id) {
+        if !self.current.names(id) {
             return Err(Deny::NotMember);
         }
         let view = without(self.alloc, &self.current, id)?;
@@ -302,8 +293,7 @@ impl Manager {
 fn may_promote(view: &View, from: ServerId, joiner: ServerId) -> bool
     ensures { result ≡ may_promote view.now from joiner }
 {
-    let members = view.chain.len();
-    match (view.chain.get(members.saturating_sub(1)), view.joiner) {
+    match (view.last_member(), view.joiner) {
         (Some(last), Some(own)) => last.0 == from.0 && own.0 == joiner.0,
         _ => false,
     }

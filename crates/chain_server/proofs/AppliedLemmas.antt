@@ -14,10 +14,6 @@ use Rattle.kr_order.proofs.PrefixLemmas.{IsPrefix-append, IsPrefix-take, IsPrefi
 use Rattle.cmd_log.specs.Places.{entry_at}
 use Rattle.kr_order.specs.Prefix.{IsPrefix}
 
--- it is one of a longer log too
-pub IsPrefix-longer : (history log more : List Entry) → IsPrefix history log → IsPrefix history (log ++ more)
-IsPrefix-longer history log more front = IsPrefix-trans history log (log ++ more) front (IsPrefix-append log more)
-
 -- the entry at a place
 entry_there : (log : List Entry) (place n : ℕ) (entry : Entry) → place ≡ n + 1 → entry_at log place ≡ Some entry → slice_get log n ≡ Some entry
 entry_there log place n entry is there = by_test (eqb place 0) refl there

@@ -3,4 +3,4 @@ pub mod ReplyLemmas
 pub mod HeedLemmas
 pub mod AdvanceLemmas
 pub mod RequestLemmas
-pub mod AskLemmas
+pub mod Asked

@@ -27,7 +27,8 @@ abbrev pub Takes : ServerStanding → Packet → Result Effects OutOfMemory → 
 Takes old packet result new = Does old (server_takes old.server packet) result new
 
 -- the server goes on as this reaction says, and its packets come behind those before
-pub record Adds (before : Effects) (old : ServerStanding) (reaction : Reaction Server) (effects : Effects) (new : ServerStanding) : Type 0 where
+pub record Adds (before : Effects) (old : ServerStanding) (reaction : Reaction Server) (effects : Effects) (new : ServerStanding)
+    : Type 0 where
   pub after : new ≡ record { server = reaction.after; failed = false }
   pub packets : effects.packets ≡ before.packets ++ reaction.sent
   pub committed : effects.committed ≡ before.committed

@@ -1,20 +1,17 @@
 -- What a server sends, said of its parts.
-use Rattle.std.specs.Prelude.{ℕ, ◌==◌, Bool, false, not, ◌&&◌, List, [], ◌∷◌, length, Option, None, Some, if◌then◌else◌}
+use Rattle.std.specs.Prelude.{ℕ, ◌==◌, List, [], ◌∷◌, Option, None, Some, if◌then◌else◌}
 use Rattle.std.specs.Option.{option_to_list}
 use Rattle.kr_order.specs.declared.ids.ServerId.{ServerId}
 use Rattle.kr_order.specs.declared.ids.ClientId.{ClientId}
 use Rattle.kr_order.specs.declared.history.Command.{Command}
-use Rattle.kr_order.specs.declared.answer.Query.{Query}
 use Rattle.kr_order.specs.declared.history.Entry.{Entry}
 use Rattle.kr_order.specs.declared.history.DoneEntry.{DoneEntry}
 use Rattle.kr_order.specs.declared.message.Node.TheVariants.{Client, Server as FromServer}
-use Rattle.kr_order.specs.declared.message.Message.TheVariants.{Answered, Refer}
+use Rattle.kr_order.specs.declared.message.Message.TheVariants.{Refer}
 use Rattle.kr_order.specs.declared.message.Packet.{Packet}
 use Rattle.kr_order.specs.declared.view.View.{View}
-use Rattle.kr_order.specs.View.{is_tail}
-use Rattle.kr_order.specs.Answer.{answers_after}
 use Rattle.kr_protocol.specs.Reaction.{Reaction}
-use Rattle.kr_protocol.specs.Server.{Server, reply_packet, told_by, sends, window}
+use Rattle.kr_protocol.specs.Server.{Server, reply_packet, sends, window}
 
 -- what is passed on once so many entries were taken
 abbrev pub passed_on_by : Server → ℕ → List Packet
@@ -37,26 +34,6 @@ entry_of client seq command = record { client = client; seq = seq; command = com
 abbrev pub reply_if_last : ServerId → Option DoneEntry → DoneEntry → Option Packet
 reply_if_last id None done = None
 reply_if_last id (Some last) done = if last.place == done.place then Some (reply_packet id last) else None
-
--- the answers to a query after this history
-abbrev pub answered : ServerId → Bool → List Entry → Query → Packet
-answered id tail history query =
-    record { from = FromServer id; to = Client query.client; message = Answered query.q query.part (record { entry = length history; answers = told_by tail (answers_after history query.pairs) }) }
-
--- the view of a server, for the client of a query
-abbrev pub referred : ServerId → View → Query → Packet
-referred id view query =
-    record { from = FromServer id; to = Client query.client; message = Refer query.q query.part view }
-
--- only the tail answers the pairs that are asked again
-abbrev pub is_for_tail_alone : Bool → ℕ → Bool
-is_for_tail_alone tail part = part == 2 && not tail
-
--- what a query that waits is told: a server without a view is not the tail, and has none to refer to
-abbrev pub worked_off : ServerId → Option View → List Entry → Query → Packet
-worked_off id None history query = answered id false history query
-worked_off id (Some view) history query =
-    if is_for_tail_alone (is_tail view id) query.part then referred id view query else answered id (is_tail view id) history query
 
 -- a server tells a client which view it has adopted, if it has one
 abbrev pub view_packets : ServerId → Option View → ClientId → ℕ → ℕ → List Packet

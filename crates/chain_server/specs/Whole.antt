@@ -12,7 +12,8 @@ pub record IsBackOf {X : Type 0} (all back : List X) : Type 0 where
   pub front : List X
   pub is : all ≡ front ++ back
 
--- the link goes to the next server of the view, to none where there is no view, and while no call has failed, the log begins with the board's history
+-- the link goes to the next server of the view, to none where there is no view, and while no call has failed, the log
+-- begins with the board's history
 pub record IsWhole (id : ServerId) (view : Option View) (to : Option ServerId) (failed : Bool) (history log : List Entry) : Type 0 where
   pub next : to ≡ viewed None next_of view id
   pub prefix : failed ≡ false → IsPrefix history log

@@ -10,8 +10,6 @@ mod advance;
 mod effects;
 mod replies;
 mod server;
-#[cfg(test)]
-mod tests;
 mod told;
 
 pub use effects::Effects;

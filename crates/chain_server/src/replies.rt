@@ -78,7 +78,9 @@ fn push_reply<B: Board>(
     done: &DoneEntry,
     packets: &mut Packets,
 ) -> Result<(), NoMemory>
-    ensures { OnOk result (packets.new ≡ packets.old ++ option_to_list (reply_if_last id (last_of done.now.entry.client (done_of (B.stands board.now))) done.now)) }
+    ensures { OnOk result
+        (packets.new ≡ packets.old
+        ++ option_to_list (reply_if_last id (last_of done.now.entry.client (done_of (B.stands board.now))) done.now)) }
 {
     match reply_if_last(id, board, done)? {
         Some(packet) => packets.push(packet),

@@ -1,10 +1,11 @@
 //! What is told to the queries that wait.
 
-ghost use Rattle.std.specs.Prelude.{◌≡◌, map, IfOk};
+ghost use Rattle.std.specs.Prelude.{◌≡◌, false, length, map, IfOk};
 ghost use Rattle.kr_order.specs.Answer.{partial};
-ghost use Rattle.kr_protocol.specs.Server.{told_by};
+ghost use Rattle.kr_order.specs.View.{is_tail};
+ghost use Rattle.kr_protocol.specs.Server.{viewed, is_for_tail_alone, told_by, answered, worked_off};
 ghost use Rattle.query_worker.specs.Told.{told_after};
-ghost use Rattle.chain_server.specs.Parts.{is_for_tail_alone, view_packets, worked_off};
+ghost use Rattle.chain_server.specs.Parts.{view_packets};
 
 use kr_order::{
     Answer, Answers, ClientId, Copied, Message, NoMemory, Node, Packet, Packets, Query, ServerId,
@@ -64,7 +65,8 @@ fn refer(
     q: u64,
     part: u8,
 ) -> Result<Packet, NoMemory>
-    ensures { IfOk result (λ packet. packet ≡ record { from = Node.Server id; to = Node.Client client; message = Message.Refer q part view.now }) }
+    ensures { IfOk result
+        (λ packet. packet ≡ record { from = Node.Server id; to = Node.Client client; message = Message.Refer q part view.now }) }
 {
     let view = view.copy(alloc)?;
     Ok(Packet {
@@ -101,7 +103,13 @@ fn answer(
     query: &Query,
     told: &Told,
 ) -> Result<Packet, NoMemory>
-    ensures { IfOk result (λ packet. packet ≡ record { from = Node.Server id; to = Node.Client query.now.client; message = Message.Answered query.now.q query.now.part (record { entry = told.now.entry; answers = told_by tail told.now.answers }) }) }
+    ensures { IfOk result
+        (λ packet. packet ≡ record {
+          from = Node.Server id;
+          to = Node.Client query.now.client;
+          message = Message.Answered query.now.q query.now.part
+              (record { entry = told.now.entry; answers = told_by tail told.now.answers });
+        }) }
 {
     let answers = told_by(alloc, tail, &told.answers)?;
     Ok(Packet {
@@ -127,7 +135,7 @@ fn packet_of(
     told: &Told,
 ) -> Result<Packet, NoMemory>
     ensures { (history : _) → told.now ≡ told_after history query.now →
-        IfOk result (λ packet. packet ≡ worked_off id view.now history query.now) }
+        IfOk result (λ packet. packet ≡ worked_off id view.now (viewed false is_tail view.now id) (length history) history query.now) }
 {
     let Some(view) = view else {
         return answer(alloc, id, false, query, told);
@@ -150,7 +158,8 @@ pub fn work_packets<B: Board, R: Threads + Sync>(
     waiting: &[Query],
     workers: u32,
 ) -> Result<Packets, NoMemory>
-    ensures { IfOk result (λ packets. packets ≡ map (worked_off id view.now (B.stands board.now)) waiting.now) }
+    ensures { IfOk result (λ packets. packets ≡
+        map (worked_off id view.now (viewed false is_tail view.now id) (length (B.stands board.now)) (B.stands board.now)) waiting.now) }
 {
     let told = board.all(rt, waiting, workers)?;
     let mut packets = Packets::new(alloc);

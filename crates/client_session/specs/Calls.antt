@@ -60,7 +60,8 @@ Hears hearing (Ok heard) new = Heeds hearing heard new
 Hears hearing (Err stop) new = new.failed ≡ true
 
 -- the query was begun: what the client remembers is told, and what asks the server for the rest is to be sent
-pub record OpensQuery (old : ClientStanding) (server : ServerId) (pairs : List (EventId × EventId)) (heard : Heard) (new : ClientStanding) : Type 0 where
+pub record OpensQuery
+    (old : ClientStanding) (server : ServerId) (pairs : List (EventId × EventId)) (heard : Heard) (new : ClientStanding) : Type 0 where
   pub idle : is_busy old.client ≡ false
   pub whole : old.failed ≡ false
   pub heeds : Heeds (asks old.client server pairs) heard new

@@ -3,7 +3,8 @@
 ghost use Rattle.std.specs.Prelude.{◌≡◌, ◌≤◌, ◌<◌, ◌==◌, ◌&&◌, [], ◌∷◌, ◌++◌, not, length, IfOk, OnOk};
 ghost use Rattle.kr_protocol.specs.Cache.{is_lasting};
 ghost use Rattle.client_session.specs.Lookups.{told_behind, unsure_behind};
-ghost use Rattle.kr_protocol.specs.Client.{may_answer, may_answer_all, is_unsure, parts_of as parts_are, unsure_of as unsure_are, remembers_all, most_remembered};
+ghost use Rattle.kr_protocol.specs.Client.{may_answer, may_answer_all, is_unsure, parts_of as parts_are};
+ghost use Rattle.kr_protocol.specs.Client.{unsure_of as unsure_are, remembers_all, most_remembered};
 
 use kr_order::{Answer, Asked, EventId, NoMemory, Parts, Teller, ToldPart};
 use order_cache::{Cache, Seen};

@@ -121,9 +121,8 @@ fn first_of(chain: &[ServerId]) -> ServerId
 fn last_of(view: &View) -> ServerId
     ensures { result ≡ server_or_none (last_member view.now) }
 {
-    let members = view.chain.len();
-    match view.chain.get(members.saturating_sub(1)) {
-        Some(server) => *server,
+    match view.last_member() {
+        Some(server) => server,
         None => ServerId(0),
     }
 }
@@ -143,7 +142,17 @@ impl Model for Client {
     ghost Value = { ClientStanding };
 
     ghost view = { λ c. record {
-      client = record { id = c.id; seq = c.seq; call = c.call; q = c.q; part = c.part; asking = c.asking; seen = c.seen; known = c.known; cache = c.cache.items };
+      client = record {
+        id = c.id;
+        seq = c.seq;
+        call = c.call;
+        q = c.q;
+        part = c.part;
+        asking = c.asking;
+        seen = c.seen;
+        known = c.known;
+        cache = c.cache.items;
+      };
       failed = c.failed;
     } };
 

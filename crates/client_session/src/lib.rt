@@ -8,8 +8,6 @@
 mod answers;
 mod client;
 mod lookups;
-#[cfg(test)]
-mod tests;
 
 pub use client::{CallStop, Client, Heard, RetryStop};
 pub use kr_order::ToldReply;

@@ -16,10 +16,10 @@ use Rattle.kr_world.specs.Lines.{grown_line, told_lines, part_lines, shown_line,
 use Rattle.kr_world.specs.Run.{lines_from}
 use Rattle.kr_world.specs.Round.{after_all, round_calls, delivery_events, work_events, round_events, IsOfRound}
 use Rattle.kr_world.specs.Sound.{HaveBegun}
-use Rattle.kr_world.proofs.CountLemmas.{AsksNothing}
-use Rattle.kr_world.proofs.RoundLemmas.{lines_from-append, after_all_kept}
-use Rattle.kr_world.proofs.RoundShapeLemmas.{asks_none}
-use Rattle.kr_world.proofs.RoundEventLemmas.{calls_fit, deliveries_fit, works_fit}
+use Rattle.kr_world.proofs.steps.CountLemmas.{AsksNothing}
+use Rattle.kr_world.proofs.rounds.RoundLemmas.{lines_from-append, after_all_kept}
+use Rattle.kr_world.proofs.rounds.RoundShapeLemmas.{asks_none}
+use Rattle.kr_world.proofs.rounds.RoundEventLemmas.{calls_fit, deliveries_fit, works_fit}
 use Rattle.script_lang.specs.Event.{IsEvent}
 use Rattle.cluster_sim.specs.BagStanding.{BagStanding}
 use Rattle.cluster_sim.specs.ClusterStanding.{ClusterStanding}

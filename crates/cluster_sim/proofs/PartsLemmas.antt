@@ -31,7 +31,8 @@ use Rattle.client_session.specs.Calls.{Opens, OpensQuery, Accepts, Heeds}
 use Rattle.chain_server.specs.declared.effects.Effects.{Effects}
 use Rattle.chain_server.specs.ServerStanding.{ServerStanding}
 use Rattle.chain_server.specs.Calls.{Heeds as ServerHeeds}
-use Rattle.kr_world.specs.World.{World, client_at, server_at, packet_at, is_stopped, has_stopped, marked, with_packets, longest}
+use Rattle.kr_order.specs.Marks.{marked}
+use Rattle.kr_world.specs.World.{World, client_at, server_at, packet_at, is_stopped, has_stopped, with_packets, longest}
 use Rattle.kr_world.specs.declared.refusal.Refusal.TheVariants.{NoSuchClient, NoSuchPacket}
 use Rattle.kr_world.specs.Step.{Outcome, if_full, turn_refusal, call_refusal, query_refusal, retry_refusal, deliver_refusal, lose_refusal, refusal_of, told_to, parts_to, client_sends, client_hears, client_calls, client_asks, client_retries, server_reacts, arrives_at_client, arrives_at_server, arrives, delivers, loses, works, ticks_at, act, unless, step}
 use Rattle.kr_world.specs.Sound.{IsSound, IsSoundPacket, HaveBegun}
@@ -42,14 +43,14 @@ use Rattle.script_lang.specs.declared.script.Event.{Event}
 use Rattle.script_lang.specs.Event.{IsEvent}
 use Rattle.kr_order.specs.declared.message.Node.{Node}
 use Rattle.kr_order.specs.declared.message.Node.TheVariants.{Server as AtServer}
-use Rattle.kr_world.proofs.SoundLemmas.{takes_within, work_within, tick_within, worlds_sound}
-use Rattle.kr_world.proofs.BagLemmas.{delivered_sound}
-use Rattle.kr_world.proofs.GrowLemmas.{step_grows, settled_stay}
+use Rattle.kr_world.proofs.sound.SoundLemmas.{takes_within, work_within, tick_within, worlds_sound}
+use Rattle.kr_world.proofs.steps.BagLemmas.{delivered_sound}
+use Rattle.kr_world.proofs.steps.GrowLemmas.{step_grows, settled_stay}
 use Rattle.kr_world.specs.Round.{AreSettled}
-use Rattle.kr_world.proofs.StepLemmas.{at_index, may_turn, may_deliver}
-use Rattle.kr_world.proofs.SeatLemmas.{IsSeated, seated, own_of}
-use Rattle.kr_world.proofs.BoundsLemmas.{IsWithinBounds}
-use Rattle.kr_world.proofs.ReactionLemmas.{HistoryGrows, grows_or_stays}
+use Rattle.kr_world.proofs.steps.StepLemmas.{at_index, may_turn, may_deliver}
+use Rattle.kr_world.proofs.chain.SeatLemmas.{IsSeated, seated, own_of}
+use Rattle.kr_world.proofs.bounds.BoundsLemmas.{IsWithinBounds}
+use Rattle.kr_world.proofs.bounds.ReactionLemmas.{HistoryGrows, grows_or_stays}
 use Rattle.cluster_sim.specs.BagStanding.{BagStanding, IsNumbered, IsSent}
 use Rattle.cluster_sim.specs.declared.parts.Parts.{Parts}
 use Rattle.cluster_sim.specs.declared.parts.Noted.{Noted}
@@ -224,7 +225,7 @@ notes world journal committed servers old after is whole applied low high agreed
     ]
 
 -- what has become of the parts once a server has gone on
-pub record IsSettled (parts made : Parts) (server : ServerId) (old new : ServerStanding) (effects : Effects) : Type 0 where
+pub record IsCarriedOut (parts made : Parts) (server : ServerId) (old new : ServerStanding) (effects : Effects) : Type 0 where
   pub there : slice_get parts.servers.items (server.0 - 1) ≡ Some old
   pub manager : made.manager ≡ parts.manager
   pub nodes : made.servers.items ≡ slice_set parts.servers.items (server.0 - 1) new
@@ -234,28 +235,28 @@ pub record IsSettled (parts made : Parts) (server : ServerId) (old new : ServerS
   pub journal : made.journal ≡ noted parts.journal old.server.done effects.committed
 
 -- a server's reaction: its node, the bag and the journal have changed
-pub server_reacted : (parts made : Parts) (server : ServerId) (old new : ServerStanding) (reaction : Reaction Server) (effects : Effects) → IsWhole parts → is_stopped (world_of parts) server ≡ false → IsSettled parts made server old new effects → IsWithinBounds (world_of parts) old.server reaction → ServerHeeds old reaction effects new → Makes (server_reacts (world_of parts) server reaction) parts.bag.before made nothing_noted
-server_reacted parts made server old new reaction effects whole runs settled bounds heeds =
+pub server_reacted : (parts made : Parts) (server : ServerId) (old new : ServerStanding) (reaction : Reaction Server) (effects : Effects) → IsWhole parts → is_stopped (world_of parts) server ≡ false → IsCarriedOut parts made server old new effects → IsWithinBounds (world_of parts) old.server reaction → ServerHeeds old reaction effects new → Makes (server_reacts (world_of parts) server reaction) parts.bag.before made nothing_noted
+server_reacted parts made server old new reaction effects whole runs carried bounds heeds =
     let i = server.0 - 1 in
     let w = world_of parts in
-    let at : server_at w server ≡ Some old.server = server_there parts server old settled.there in
+    let at : server_at w server ≡ Some old.server = server_there parts server old carried.there in
     let seat : IsSeated w server old.server = seated w server old.server at runs whole.sound in
     let own = own_of w server old.server seat in
     let node_after : new.server ≡ reaction.after = ap (λ (s : ServerStanding). s.server) heeds.after in
     let grows = grows_or_stays w server old.server reaction seat bounds in
     let ss = slice_set w.servers i reaction.after in
-    let down : made.journal ≡ done_of (longest w.history ss) = settled.journal ∙ notes w parts.journal effects.committed ss old.server reaction.after refl whole.journal heeds.committed own.done bounds.done own.agreed grows in
+    let down : made.journal ≡ done_of (longest w.history ss) = carried.journal ∙ notes w parts.journal effects.committed ss old.server reaction.after refl whole.journal heeds.committed own.done bounds.done own.agreed grows in
     let history : history_of made.journal ≡ longest w.history ss = ap history_of down ∙ history_of-done_of (longest w.history ss) in
-    let nodes : map (λ (s : ServerStanding). s.server) made.servers.items ≡ ss = servers_after parts made.servers.items i new reaction.after settled.nodes node_after in
-    let clients : map (λ (c : ClientStanding). c.client) made.clients.items ≡ w.clients = ap (λ (cs : Vec ClientStanding Global). map (λ (c : ClientStanding). c.client) cs.items) settled.callers in
+    let nodes : map (λ (s : ServerStanding). s.server) made.servers.items ≡ ss = servers_after parts made.servers.items i new reaction.after carried.nodes node_after in
+    let clients : map (λ (c : ClientStanding). c.client) made.clients.items ≡ w.clients = ap (λ (cs : Vec ClientStanding Global). map (λ (c : ClientStanding). c.client) cs.items) carried.callers in
     let f : Manager → Vec Bool Global → List Server → List Client → List Entry → World = λ m marks ns cs h. record { manager = m; servers = ns; stopped = marks.items; clients = cs; bag = made.bag.packets; lost = made.bag.lost; delivered = made.bag.delivered; history = h } in
     let its_nodes = map (λ (s : ServerStanding). s.server) made.servers.items in
     let its_clients = map (λ (c : ClientStanding). c.client) made.clients.items in
     let its_history = history_of made.journal in
     let changed : world_of made ≡ f parts.manager parts.stopped ss w.clients (longest w.history ss) =
-    ap (λ m. f m made.stopped its_nodes its_clients its_history) settled.manager ∙ ap (λ marks. f parts.manager marks its_nodes its_clients its_history) settled.marks ∙ ap (λ ns. f parts.manager parts.stopped ns its_clients its_history) nodes ∙ ap (λ cs. f parts.manager parts.stopped ss cs its_history) clients ∙ ap (f parts.manager parts.stopped ss w.clients) history in
+    ap (λ m. f m made.stopped its_nodes its_clients its_history) carried.manager ∙ ap (λ marks. f parts.manager marks its_nodes its_clients its_history) carried.marks ∙ ap (λ ns. f parts.manager parts.stopped ns its_clients its_history) nodes ∙ ap (λ cs. f parts.manager parts.stopped ss cs its_history) clients ∙ ap (f parts.manager parts.stopped ss w.clients) history in
     let g : List Packet → List Bool → List Bool → World = λ ps ls ds. record w { servers = ss; history = longest w.history ss; bag = ps; lost = ls; delivered = ds } in
-    let sent = settled.bag in
+    let sent = carried.bag in
     let packets = effects.packets in
     let bags : f parts.manager parts.stopped ss w.clients (longest w.history ss) ≡ with_packets (record w { servers = ss; history = longest w.history ss }) packets = ap (λ ps. g ps made.bag.lost made.bag.delivered) sent.packets_are ∙ ap (λ ls. g (w.bag ++ packets) ls made.bag.delivered) sent.lost ∙ ap (g (w.bag ++ packets) (w.lost ++ map (λ packet. false) packets)) sent.delivered in
     record {
@@ -264,34 +265,34 @@ server_reacted parts made server old new reaction effects whole runs settled bou
       parts = refl;
       shown = refl;
       refused = refl;
-      servers = servers_whole parts.servers.items made.servers.items i new settled.nodes (ap (λ (s : ServerStanding). s.failed) heeds.after) whole.servers;
-      clients = subst (λ (cs : Vec ClientStanding Global). All (λ c. c.failed ≡ false) cs.items) (sym settled.callers) whole.clients;
+      servers = servers_whole parts.servers.items made.servers.items i new carried.nodes (ap (λ (s : ServerStanding). s.failed) heeds.after) whole.servers;
+      clients = subst (λ (cs : Vec ClientStanding Global). All (λ c. c.failed ≡ false) cs.items) (sym carried.callers) whole.clients;
       journal = down ∙ ap done_of (sym history);
       since = sent.before;
     }
 
 -- a server takes a packet
-pub server_took : (parts made : Parts) (server : ServerId) (old new : ServerStanding) (packet : Packet) (effects : Effects) → IsWhole parts → is_stopped (world_of parts) server ≡ false → IsSettled parts made server old new effects → IsSoundPacket (views_of parts.manager) (world_of parts).servers packet → ServerHeeds old (server_takes old.server packet) effects new → Makes (arrives_at_server (world_of parts) server packet (server_at (world_of parts) server)) parts.bag.before made nothing_noted
-server_took parts made server old new packet effects whole runs settled said heeds =
-    let at = server_there parts server old settled.there in
+pub server_took : (parts made : Parts) (server : ServerId) (old new : ServerStanding) (packet : Packet) (effects : Effects) → IsWhole parts → is_stopped (world_of parts) server ≡ false → IsCarriedOut parts made server old new effects → IsSoundPacket (views_of parts.manager) (world_of parts).servers packet → ServerHeeds old (server_takes old.server packet) effects new → Makes (arrives_at_server (world_of parts) server packet (server_at (world_of parts) server)) parts.bag.before made nothing_noted
+server_took parts made server old new packet effects whole runs carried said heeds =
+    let at = server_there parts server old carried.there in
     let bounds = takes_within (world_of parts) server packet old.server (seated (world_of parts) server old.server at runs whole.sound) said in
-    subst (λ found. Makes (arrives_at_server (world_of parts) server packet found) parts.bag.before made nothing_noted) (sym at) (server_reacted parts made server old new (server_takes old.server packet) effects whole runs settled bounds heeds)
+    subst (λ found. Makes (arrives_at_server (world_of parts) server packet found) parts.bag.before made nothing_noted) (sym at) (server_reacted parts made server old new (server_takes old.server packet) effects whole runs carried bounds heeds)
 
 -- a server works
-pub server_worked : (parts made : Parts) (server : ServerId) (old new : ServerStanding) (effects : Effects) → IsWhole parts → turn_refusal (world_of parts) server (server_at (world_of parts) server) ≡ None → IsSettled parts made server old new effects → ServerHeeds old (server_works old.server) effects new → Makes (works (world_of parts) server (server_at (world_of parts) server)) parts.bag.before made nothing_noted
-server_worked parts made server old new effects whole none settled heeds =
-    let at = server_there parts server old settled.there in
+pub server_worked : (parts made : Parts) (server : ServerId) (old new : ServerStanding) (effects : Effects) → IsWhole parts → turn_refusal (world_of parts) server (server_at (world_of parts) server) ≡ None → IsCarriedOut parts made server old new effects → ServerHeeds old (server_works old.server) effects new → Makes (works (world_of parts) server (server_at (world_of parts) server)) parts.bag.before made nothing_noted
+server_worked parts made server old new effects whole none carried heeds =
+    let at = server_there parts server old carried.there in
     let runs = (may_turn (world_of parts) server (server_at (world_of parts) server) (if_full (world_of parts)) none).runs in
     let bounds = work_within (world_of parts) server old.server (seated (world_of parts) server old.server at runs whole.sound) in
-    subst (λ found. Makes (works (world_of parts) server found) parts.bag.before made nothing_noted) (sym at) (server_reacted parts made server old new (server_works old.server) effects whole runs settled bounds heeds)
+    subst (λ found. Makes (works (world_of parts) server found) parts.bag.before made nothing_noted) (sym at) (server_reacted parts made server old new (server_works old.server) effects whole runs carried bounds heeds)
 
 -- a server ticks
-pub server_ticked : (parts made : Parts) (server : ServerId) (old new : ServerStanding) (effects : Effects) → IsWhole parts → turn_refusal (world_of parts) server (server_at (world_of parts) server) ≡ None → IsSettled parts made server old new effects → ServerHeeds old (server_ticks old.server) effects new → Makes (ticks_at (world_of parts) server (server_at (world_of parts) server)) parts.bag.before made nothing_noted
-server_ticked parts made server old new effects whole none settled heeds =
-    let at = server_there parts server old settled.there in
+pub server_ticked : (parts made : Parts) (server : ServerId) (old new : ServerStanding) (effects : Effects) → IsWhole parts → turn_refusal (world_of parts) server (server_at (world_of parts) server) ≡ None → IsCarriedOut parts made server old new effects → ServerHeeds old (server_ticks old.server) effects new → Makes (ticks_at (world_of parts) server (server_at (world_of parts) server)) parts.bag.before made nothing_noted
+server_ticked parts made server old new effects whole none carried heeds =
+    let at = server_there parts server old carried.there in
     let runs = (may_turn (world_of parts) server (server_at (world_of parts) server) (if_full (world_of parts)) none).runs in
     let bounds = tick_within (world_of parts) server old.server (seated (world_of parts) server old.server at runs whole.sound) in
-    subst (λ found. Makes (ticks_at (world_of parts) server found) parts.bag.before made nothing_noted) (sym at) (server_reacted parts made server old new (server_ticks old.server) effects whole runs settled bounds heeds)
+    subst (λ found. Makes (ticks_at (world_of parts) server found) parts.bag.before made nothing_noted) (sym at) (server_reacted parts made server old new (server_ticks old.server) effects whole runs carried bounds heeds)
 
 -- what a bag in which a packet was marked as delivered is
 abbrev pub delivered_in : BagStanding → ℕ → BagStanding

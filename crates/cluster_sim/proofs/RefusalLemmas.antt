@@ -7,9 +7,8 @@ use Rattle.kr_order.specs.declared.message.Node.{Node}
 use Rattle.kr_order.specs.declared.message.Packet.{Packet}
 use Rattle.kr_world.specs.World.{World}
 use Rattle.kr_world.specs.declared.refusal.Refusal.TheVariants.{NoSuchPacket}
-use Rattle.kr_world.specs.Step.{deliver_refusal, lose_refusal}
+use Rattle.kr_world.specs.Step.{deliver_refusal, lose_refusal, arrival_refusal, loss_refusal}
 use Rattle.cluster_sim.specs.BagStanding.{BagStanding, IsNumbered}
-use Rattle.cluster_sim.specs.Parts.{arrival_refusal, loss_refusal}
 
 abbrev pub goes : Option Packet → Option Node
 goes found = option_map (λ (packet : Packet). packet.to) found

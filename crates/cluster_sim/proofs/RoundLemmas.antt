@@ -10,7 +10,7 @@ use Rattle.client_session.specs.ClientStanding.{ClientStanding}
 use Rattle.script_lang.specs.declared.script.Event.TheVariants.{Deliver, Retry}
 use Rattle.kr_world.specs.World.{World, is_stopped}
 use Rattle.kr_world.specs.Round.{aim, retry_at, learnt, learnt_retry_of, is_under_way, AreSettled}
-use Rattle.kr_world.proofs.RoundLoopLemmas.{left_out}
+use Rattle.kr_world.proofs.rounds.RoundLoopLemmas.{left_out}
 use Rattle.cluster_sim.specs.declared.parts.Parts.{Parts}
 use Rattle.cluster_sim.specs.Parts.{world_of}
 use Rattle.cluster_sim.proofs.PartsLemmas.{client_there}

@@ -13,10 +13,10 @@ use Rattle.chain_server.specs.ServerStanding.{ServerStanding}
 use Rattle.client_session.specs.ClientStanding.{ClientStanding}
 use Rattle.kr_world.specs.World.{World, first_world}
 use Rattle.kr_world.specs.Sound.{IsSound}
-use Rattle.kr_world.proofs.ListFacts.{all_of}
-use Rattle.kr_world.proofs.RoundLoopLemmas.{numbers_to-next}
-use Rattle.kr_world.proofs.SoundLemmas.{worlds_sound}
-use Rattle.kr_world.proofs.ViewLemmas.{length-made}
+use Rattle.kr_world.proofs.steps.ListFacts.{all_of}
+use Rattle.kr_world.proofs.rounds.RoundLoopLemmas.{numbers_to-next}
+use Rattle.kr_world.proofs.sound.SoundLemmas.{worlds_sound}
+use Rattle.kr_world.proofs.chain.ViewLemmas.{length-made}
 use Rattle.cluster_sim.specs.declared.parts.Parts.{Parts}
 use Rattle.kr_order.specs.declared.history.Entry.{Entry}
 use Rattle.kr_order.specs.declared.message.Packet.{Packet}

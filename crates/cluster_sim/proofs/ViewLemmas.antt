@@ -11,7 +11,8 @@ use Rattle.kr_order.specs.declared.ids.ClientId.{ClientId}
 use Rattle.kr_order.specs.declared.ids.ServerId.{ServerId}
 use Rattle.kr_order.specs.declared.message.Packet.{Packet}
 use Rattle.kr_order.specs.declared.view.View.{View}
-use Rattle.kr_protocol.specs.Manager.{Manager, names, members_but, may_promote, next_server, removes, adds, promotes, views_of}
+use Rattle.kr_order.specs.View.{names}
+use Rattle.kr_protocol.specs.Manager.{Manager, members_but, may_promote, next_server, removes, adds, promotes, views_of}
 use Rattle.kr_protocol.specs.Server.{Server, newcomer}
 use Rattle.kr_protocol.specs.Client.{Client, learns}
 use Rattle.kr_protocol.proofs.NameLemmas.{member, in_chain-member, same_server}
@@ -20,9 +21,11 @@ use Rattle.client_session.specs.ClientStanding.{ClientStanding}
 use Rattle.kr_world.specs.World.{World, client_at, server_at, is_stopped}
 use Rattle.kr_world.specs.declared.refusal.Refusal.TheVariants.{NoSuchClient, NoSuchServer}
 use Rattle.kr_world.specs.Step.{Outcome, quiet, have_stopped, notice_refusal, join_refusal, learn_refusal, manager_tells, joined_at_manager, notices, joins, learns_view}
-use Rattle.kr_world.specs.Sound.{IsSound, IsServed, HasJoined}
-use Rattle.kr_world.proofs.SeatLemmas.{mark_of}
-use Rattle.kr_world.proofs.ManagerLemmas.{may_notice, removed_sound, with_newcomer, with_newcomer_sound, may_join, may_promote_so, with_member_sound}
+use Rattle.kr_world.specs.Sound.{IsSound, SomeMemberRuns, HasJoined}
+use Rattle.kr_world.proofs.chain.SeatLemmas.{mark_of}
+use Rattle.kr_world.proofs.manager.NoticeLemmas.{may_notice, removed_sound}
+use Rattle.kr_world.proofs.manager.JoinLemmas.{with_newcomer, with_newcomer_sound, may_join}
+use Rattle.kr_world.proofs.manager.PromotionLemmas.{may_promote_so, with_member_sound}
 use Rattle.kr_order.specs.declared.ids.NoMemory.{NoMemory}
 use Rattle.cluster_sim.specs.declared.parts.Noted.{Noted}
 use Rattle.cluster_sim.specs.declared.parts.Parts.{Parts}
@@ -119,7 +122,7 @@ noticed_of parts server k node whole same is none =
       others = λ alone. not_alone whole.sound.served stopped alone;
     }
   where
-    not_alone : IsServed (is_stopped (world_of parts)) parts.manager.current → is_stopped (world_of parts) node.server.id ≡ true → parts.manager.current.chain ≡ node.server.id ∷ [] → ⊥
+    not_alone : SomeMemberRuns (is_stopped (world_of parts)) parts.manager.current → is_stopped (world_of parts) node.server.id ≡ true → parts.manager.current.chain ≡ node.server.id ∷ [] → ⊥
     not_alone served stopped alone =
         let among : member (node.server.id ∷ []) served.member ≡ true = ap (λ chain. member chain served.member) (sym alone) ∙ sym (in_chain-member parts.manager.current served.member) ∙ served.in_it in
         let same = same_server node.server.id served.member (eqb-true node.server.id.0 served.member.0 (or_false (eqb node.server.id.0 served.member.0) ∙ among)) in

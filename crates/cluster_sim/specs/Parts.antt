@@ -1,16 +1,13 @@
 -- Which world the parts of a cluster stand for.
-use Rattle.std.specs.Prelude.{◌≡◌, ◌≤◌, ℕ, ◌-◌, List, [], ◌∷◌, ◌++◌, length, drop, map, false, All, Option, None, Some, if◌then◌else◌}
+use Rattle.std.specs.Prelude.{◌≡◌, ◌≤◌, ℕ, ◌-◌, List, [], ◌∷◌, ◌++◌, length, drop, map, false, All, Option, None, Some}
 use Rattle.kr_order.specs.declared.ids.ClientId.{ClientId}
 use Rattle.kr_order.specs.declared.answer.ToldPart.{ToldPart}
 use Rattle.kr_order.specs.declared.history.Entry.{Entry}
 use Rattle.kr_order.specs.declared.history.DoneEntry.{DoneEntry}
 use Rattle.kr_order.specs.Done.{done_of}
 use Rattle.client_session.specs.declared.client.Heard.{Heard}
-use Rattle.kr_order.specs.declared.message.Node.{Node}
-use Rattle.kr_world.specs.World.{World, has_stopped, is_marked}
-use Rattle.kr_world.specs.declared.refusal.Refusal.{Refusal}
-use Rattle.kr_world.specs.declared.refusal.Refusal.TheVariants.{Stopped, Lost}
-use Rattle.kr_world.specs.Step.{Told, Part, Outcome, told_to, parts_to, if_full}
+use Rattle.kr_world.specs.World.{World}
+use Rattle.kr_world.specs.Step.{Told, Part, Outcome, told_to, parts_to}
 use Rattle.kr_world.specs.Lines.{grown_line, told_lines, part_lines, shown_line, refused_line, packet_lines}
 use Rattle.kr_world.specs.Sound.{IsSound}
 use Rattle.kr_world.specs.Round.{AreSettled}
@@ -100,12 +97,5 @@ pub record Makes (outcome : Outcome) (before : ℕ) (made : Parts) (noted : Note
 -- the lines of a step, where the history had this many entries before it
 abbrev pub lines_of : ℕ → Parts → Noted → List ℕ
 lines_of entries parts noted =
-    grown_line entries (length parts.journal) ++ told_lines (told_in noted.told) ++ part_lines (parts_in noted.parts) ++ shown_line noted.shown ++ refused_line noted.refused ++ packet_lines parts.bag.before (drop parts.bag.before parts.bag.packets)
-
--- why a packet that goes to this node is not delivered, and why one that is there is not lost
-abbrev pub arrival_refusal : World → ℕ → Node → Option Refusal
-arrival_refusal world k to =
-    if has_stopped world to then Some Stopped else if is_marked world.lost k then Some Lost else if_full world
-
-abbrev pub loss_refusal : World → ℕ → Option Refusal
-loss_refusal world k = if is_marked world.lost k then Some Lost else None
+    grown_line entries (length parts.journal) ++ told_lines (told_in noted.told) ++ part_lines (parts_in noted.parts)
+    ++ shown_line noted.shown ++ refused_line noted.refused ++ packet_lines parts.bag.before (drop parts.bag.before parts.bag.packets)

@@ -6,7 +6,8 @@
 
 ghost use Rattle.std.specs.Prelude.{◌≡◌, ◌≤◌, ◌<◌, ◌-◌, ◌^◌, ◌||◌, nat_le, [], ◌∷◌, length, drop, slice_get, All, IfOk, OnOk, Some};
 ghost use Rattle.std.specs.Option.{option_map};
-ghost use Rattle.kr_world.specs.World.{bytes_of, is_marked, marked};
+ghost use Rattle.kr_order.specs.Marks.{is_marked, marked};
+ghost use Rattle.kr_world.specs.World.{bytes_of};
 ghost use Rattle.kr_world.specs.Step.{bag_limit, byte_limit};
 ghost use Rattle.kr_wire.specs.Valid.{IsPacket};
 ghost use Rattle.cluster_sim.specs.BagStanding.{IsSent, IsNumbered, HasPackets};

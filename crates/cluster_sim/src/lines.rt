@@ -5,7 +5,8 @@ ghost use Rattle.std.specs.Fmt.{decimal};
 ghost use Rattle.kr_order.specs.Text.{client_text, node_text, teller_text, asked_word, answer_word, part_text, message_text};
 ghost use Rattle.kr_order.specs.Done.{done_of};
 ghost use Rattle.kr_world.specs.Step.{parts_to};
-ghost use Rattle.kr_world.specs.Lines.{grown_line, told_line, told_lines, part_line, part_lines, shown_line, refused_line, packet_line, packet_lines, done_lines, end_lines};
+ghost use Rattle.kr_world.specs.Lines.{grown_line, told_line, told_lines, part_line, part_lines, shown_line, refused_line, packet_line};
+ghost use Rattle.kr_world.specs.Lines.{packet_lines, done_lines, end_lines};
 ghost use Rattle.kr_world.specs.Refusal.{refusal_word};
 ghost use Rattle.cluster_sim.specs.Parts.{told_in, parts_in, part_told, history_of, lines_of};
 
@@ -222,7 +223,8 @@ fn put_refused(out: &mut Vec<u8>, refused: Option<Refusal>) -> Result<(), NoMemo
 
 // A part of a query, with its number and another.
 fn put_query(out: &mut Vec<u8>, word: &[u8], q: u64, part: u8, n: u64) -> Result<(), NoMemory>
-    ensures { OnOk result (out.new.items ≡ out.old.items ++ (word.now ++ decimal q ++ codes " " ++ decimal part ++ codes " " ++ decimal n)) }
+    ensures { OnOk result
+        (out.new.items ≡ out.old.items ++ (word.now ++ decimal q ++ codes " " ++ decimal part ++ codes " " ++ decimal n)) }
 {
     put_counted(out, word, q)?;
     put_counted(out, b" ", u64::from(part))?;

@@ -3,8 +3,10 @@
 ghost use Rattle.std.specs.Prelude.{◌≡◌, ◌-◌, ◌≤◌};
 ghost use Rattle.kr_protocol.specs.Manager.{members_but};
 ghost use Rattle.kr_world.specs.World.{client_at, server_at, packet_at, is_stopped, has_stopped};
-ghost use Rattle.kr_world.specs.Step.{if_full, refusal_of, call_refusal, server_refusal, query_refusal, retry_refusal, turn_refusal, tick_refusal, deliver_refusal, lose_refusal, have_stopped, is_last_running, stop_refusal, notice_refusal, join_refusal, show_refusal, learn_refusal};
-ghost use Rattle.cluster_sim.specs.Parts.{world_of, arrival_refusal, loss_refusal};
+ghost use Rattle.kr_world.specs.Step.{if_full, refusal_of, call_refusal, server_refusal, query_refusal, retry_refusal, turn_refusal};
+ghost use Rattle.kr_world.specs.Step.{arrival_refusal, deliver_refusal, loss_refusal, lose_refusal, tick_refusal, have_stopped};
+ghost use Rattle.kr_world.specs.Step.{is_last_running, stop_refusal, notice_refusal, join_refusal, show_refusal, learn_refusal};
+ghost use Rattle.cluster_sim.specs.Parts.{world_of};
 ghost use Rattle.cluster_sim.specs.BagStanding.{IsNumbered};
 ghost use Rattle.script_lang.specs.Event.{IsEvent};
 
@@ -72,7 +74,8 @@ fn server_refusal(parts: &Parts, server: ServerId, rest: Option<Refusal>) -> Opt
 
 // Why a query of the client at the server is refused.
 fn query_refusal(parts: &Parts, client: ClientId, server: ServerId) -> Option<Refusal>
-    ensures { result ≡ query_refusal (world_of parts.now) server (client_at (world_of parts.now) client) (server_at (world_of parts.now) server) }
+    ensures { result ≡ query_refusal (world_of parts.now) server (client_at (world_of parts.now) client)
+        (server_at (world_of parts.now) server) }
 {
     let Some(node) = parts.clients.get(index_of(u64::from(client.0))) else {
         return Some(Refusal::NoSuchClient);
@@ -87,7 +90,8 @@ fn query_refusal(parts: &Parts, client: ClientId, server: ServerId) -> Option<Re
 
 // Why the client's open call is not tried again at the server.
 fn retry_refusal(parts: &Parts, client: ClientId, server: ServerId) -> Option<Refusal>
-    ensures { result ≡ retry_refusal (world_of parts.now) server (client_at (world_of parts.now) client) (server_at (world_of parts.now) server) }
+    ensures { result ≡ retry_refusal (world_of parts.now) server (client_at (world_of parts.now) client)
+        (server_at (world_of parts.now) server) }
 {
     let Some(node) = parts.clients.get(index_of(u64::from(client.0))) else {
         return Some(Refusal::NoSuchClient);
@@ -105,6 +109,65 @@ fn turn_refusal(parts: &Parts, server: ServerId) -> Option<Refusal>
     ensures { result ≡ turn_refusal (world_of parts.now) server (server_at (world_of parts.now) server) }
 {
     server_refusal(parts, server, if_full(parts))
+}
+
+/// Whether the node has stopped; only a server may have.
+pub fn has_stopped(parts: &Parts, node: Node) -> bool
+    ensures { result ≡ has_stopped (world_of parts.now) node }
+{
+    match node {
+        Node::Manager | Node::Client(_) => false,
+        Node::Server(server) => is_stopped(parts, server),
+    }
+}
+
+// Why a delivery of packet k, which goes to this node, is refused.
+fn arrival_refusal(parts: &Parts, k: u64, to: Node) -> Option<Refusal>
+    requires { IsNumbered parts.now.bag k }
+    ensures { result ≡ arrival_refusal (world_of parts.now) k to }
+{
+    if has_stopped(parts, to) {
+        return Some(Refusal::Stopped);
+    }
+    if parts.bag.is_lost(k) {
+        Some(Refusal::Lost)
+    } else {
+        if_full(parts)
+    }
+}
+
+// Why a delivery of packet k is refused.
+fn deliver_refusal(parts: &Parts, k: u64) -> Option<Refusal>
+    requires { 1 ≤ k }
+    ensures { result ≡ deliver_refusal (world_of parts.now) k (packet_at (world_of parts.now) k) }
+{
+    match parts.bag.to(k) {
+        None => Some(Refusal::NoSuchPacket),
+        Some(to) => arrival_refusal(parts, k, to),
+    }
+}
+
+// Why packet k, which is there, is not lost.
+fn loss_refusal(parts: &Parts, k: u64) -> Option<Refusal>
+    requires { IsNumbered parts.now.bag k }
+    ensures { result ≡ loss_refusal (world_of parts.now) k }
+{
+    if parts.bag.is_lost(k) {
+        Some(Refusal::Lost)
+    } else {
+        None
+    }
+}
+
+// Why packet k is not lost.
+fn lose_refusal(parts: &Parts, k: u64) -> Option<Refusal>
+    requires { 1 ≤ k }
+    ensures { result ≡ lose_refusal (world_of parts.now) k (packet_at (world_of parts.now) k) }
+{
+    match parts.bag.to(k) {
+        None => Some(Refusal::NoSuchPacket),
+        Some(_) => loss_refusal(parts, k),
+    }
 }
 
 // Why a tick is refused.
@@ -170,72 +233,6 @@ fn notice_refusal(parts: &Parts, server: ServerId) -> Option<Refusal>
     }
 }
 
-/// Whether the node has stopped; only a server may have.
-pub fn has_stopped(parts: &Parts, node: Node) -> bool
-    ensures { result ≡ has_stopped (world_of parts.now) node }
-{
-    match node {
-        Node::Manager | Node::Client(_) => false,
-        Node::Server(server) => is_stopped(parts, server),
-    }
-}
-
-// Why a delivery of packet k, which goes to this node, is refused.
-fn arrival_refusal(parts: &Parts, k: u64, to: Node) -> Option<Refusal>
-    requires { IsNumbered parts.now.bag k }
-    ensures { result ≡ arrival_refusal (world_of parts.now) k to }
-{
-    if has_stopped(parts, to) {
-        return Some(Refusal::Stopped);
-    }
-    if parts.bag.is_lost(k) {
-        Some(Refusal::Lost)
-    } else {
-        if_full(parts)
-    }
-}
-
-// Why a delivery of packet k is refused.
-fn deliver_refusal(parts: &Parts, k: u64) -> Option<Refusal>
-    requires { 1 ≤ k }
-    ensures { result ≡ deliver_refusal (world_of parts.now) k (packet_at (world_of parts.now) k) }
-{
-    match parts.bag.to(k) {
-        None => Some(Refusal::NoSuchPacket),
-        Some(to) => arrival_refusal(parts, k, to),
-    }
-}
-
-// Why packet k, which is there, is not lost.
-fn loss_refusal(parts: &Parts, k: u64) -> Option<Refusal>
-    requires { IsNumbered parts.now.bag k }
-    ensures { result ≡ loss_refusal (world_of parts.now) k }
-{
-    if parts.bag.is_lost(k) {
-        Some(Refusal::Lost)
-    } else {
-        None
-    }
-}
-
-// Why packet k is not lost.
-fn lose_refusal(parts: &Parts, k: u64) -> Option<Refusal>
-    requires { 1 ≤ k }
-    ensures { result ≡ lose_refusal (world_of parts.now) k (packet_at (world_of parts.now) k) }
-{
-    match parts.bag.to(k) {
-        None => Some(Refusal::NoSuchPacket),
-        Some(_) => loss_refusal(parts, k),
-    }
-}
-
-// Why a server is not shown.
-fn show_refusal(parts: &Parts, server: ServerId) -> Option<Refusal>
-    ensures { result ≡ show_refusal (world_of parts.now) server (server_at (world_of parts.now) server) }
-{
-    server_refusal(parts, server, None)
-}
-
 // Why no server joins.
 fn join_refusal(parts: &Parts) -> Option<Refusal>
     ensures { result ≡ join_refusal (world_of parts.now) }
@@ -248,6 +245,13 @@ fn join_refusal(parts: &Parts) -> Option<Refusal>
     } else {
         if_full(parts)
     }
+}
+
+// Why a server is not shown.
+fn show_refusal(parts: &Parts, server: ServerId) -> Option<Refusal>
+    ensures { result ≡ show_refusal (world_of parts.now) server (server_at (world_of parts.now) server) }
+{
+    server_refusal(parts, server, None)
 }
 
 // Why a client does not learn the view.

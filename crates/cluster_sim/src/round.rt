@@ -3,7 +3,8 @@
 ghost use Rattle.std.specs.Prelude.{◌≡◌, ◌≤◌, ◌<◌, ◌+◌, ◌++◌, ◌&&◌, not, length, IfOk, OnOk};
 ghost use Rattle.kr_protocol.specs.Client.{is_busy, learns};
 ghost use Rattle.kr_world.specs.World.{packet_at, is_stopped};
-ghost use Rattle.kr_world.specs.Round.{learn_events, tick_events, aim, learnt_retry_of, learnt_retry_events, may_take, is_under_way, delivery_events, work_events, round_calls, AreSettled};
+ghost use Rattle.kr_world.specs.Round.{learn_events, tick_events, aim, learnt_retry_of, learnt_retry_events, may_take, is_under_way};
+ghost use Rattle.kr_world.specs.Round.{delivery_events, work_events, round_calls, AreSettled};
 ghost use Rattle.cluster_sim.specs.Parts.{world_of, event_in};
 ghost use Rattle.cluster_sim.specs.BagStanding.{IsNumbered};
 
@@ -46,10 +47,13 @@ fn put_ticks(parts: &Parts, events: &mut Vec<Event>) -> Result<(), NoMemory>
 fn aim(client: &Client, view: &View) -> ServerId
     ensures { result ≡ aim (learns client.now.client view.now) }
 {
-    let last = view.chain.len().saturating_sub(1);
-    let at = if client.has_command() { 0 } else { last };
-    match view.chain.get(at) {
-        Some(server) => *server,
+    let server = if client.has_command() {
+        view.chain.get(0).copied()
+    } else {
+        view.last_member()
+    };
+    match server {
+        Some(server) => server,
         None => ServerId(0),
     }
 }

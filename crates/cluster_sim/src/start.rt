@@ -28,7 +28,8 @@ pub fn founders(
     view: &View,
     servers: u32,
 ) -> Result<Vec<Server<PlainBoard>>, NoMemory>
-    ensures { IfOk result (λ nodes. nodes.items ≡ map (λ n. record { server = founder view.now (record { 0 = n }); failed = false }) (numbers_to servers)) }
+    ensures { IfOk result
+        (λ nodes. nodes.items ≡ map (λ n. record { server = founder view.now (record { 0 = n }); failed = false }) (numbers_to servers)) }
 {
     let mut nodes = Vec::new(alloc);
     for i in 0..servers {
@@ -40,7 +41,9 @@ pub fn founders(
 
 /// So many clients that have begun nothing, and know the view.
 pub fn callers(alloc: Global, view: &View, clients: u32) -> Result<Vec<Client>, NoMemory>
-    ensures { IfOk result (λ nodes. nodes.items ≡ map (λ n. record { client = new_client view.now (record { 0 = n }); failed = false }) (numbers_to clients)) }
+    ensures { IfOk result
+        (λ nodes. nodes.items
+        ≡ map (λ n. record { client = new_client view.now (record { 0 = n }); failed = false }) (numbers_to clients)) }
 {
     let mut nodes = Vec::new(alloc);
     for i in 0..clients {

@@ -333,9 +333,6 @@ pub record IsDropping (event : ℕ) (old_pairs pairs : List (ℕ × ℕ)) (old_b
   pub ins : ins_of pairs event ≡ ins_of old_pairs event
   pub bare : bared ≡ old_bare ++ filter (λ other. eqb (ins_of (pairs_without old_pairs event) other) 0) done
 
-pub IsDropping-none : (event : ℕ) (pairs : List (ℕ × ℕ)) (bare : List ℕ) → IsDropping event pairs pairs bare bare
-IsDropping-none event pairs bare = record { done = []; outs = refl; others = refl; ins = refl; bare = sym (append-nil bare) }
-
 pub IsDropping-more : (event : ℕ) (old_pairs pairs new_pairs : List (ℕ × ℕ)) (old_bare bared new_bared : List ℕ) → IsDropping event old_pairs pairs old_bare bared → IsDropped event pairs new_pairs bared new_bared → IsDropping event old_pairs new_pairs old_bare new_bared
 IsDropping-more event old_pairs pairs new_pairs old_bare bared new_bared was is =
     record {
@@ -355,11 +352,6 @@ IsDropping-more event old_pairs pairs new_pairs old_bare bared new_bared was is 
 -- all were taken out
 pub pairs-dropped : (event : ℕ) (old_pairs pairs : List (ℕ × ℕ)) (old_bare bared : List ℕ) → IsDropping event old_pairs pairs old_bare bared → outs_of pairs event ≡ [] → pairs ≡ pairs_without old_pairs event
 pairs-dropped event old_pairs pairs old_bare bared was ended = sym (pairs_without-none pairs event ended) ∙ was.others
-
-pub bare-dropped : (event : ℕ) (old_pairs pairs : List (ℕ × ℕ)) (old_bare bared : List ℕ) → IsDropping event old_pairs pairs old_bare bared → outs_of pairs event ≡ [] → bared ≡ old_bare ++ bared_by old_pairs event
-bare-dropped event old_pairs pairs old_bare bared was ended =
-    let all : was.done ≡ outs_of old_pairs event = sym (was.outs ∙ ap (λ l. was.done ++ l) ended ∙ append-nil was.done) in
-    was.bare ∙ ap (λ l. old_bare ++ filter (λ other. eqb (ins_of (pairs_without old_pairs event) other) 0) l) all
 
 -- an event is none of those that it leaves bare
 pub not_bared : (pairs : List (ℕ × ℕ)) (bare : List ℕ) (event : ℕ) → IsAcyclic pairs → is_held bare event ≡ false → is_held (bare ++ bared_by pairs event) event ≡ false

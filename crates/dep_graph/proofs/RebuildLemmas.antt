@@ -32,19 +32,6 @@ pub record IsRebuilt (old_cells cells : Slab Cell) (links fresh : List (Option L
   pub newest : (key : ℕ) (cell : Cell) → get cells key ≡ Some cell → cell.newest ≡ moved (newest_of (take k links) cell.event.0) (newest_of fresh cell.event.0) (newest_of links cell.event.0)
   pub ins : (key : ℕ) (cell : Cell) → get cells key ≡ Some cell → cell.in_count ≡ ins_of (pairs_in links) cell.event.0
 
--- none was
-pub IsRebuilt-none : (cells : Slab Cell) (links : List (Option Link)) → AreLinked cells links → IsRebuilt cells cells links [] 0
-IsRebuilt-none cells links linked =
-    record {
-      pairs = refl;
-      chained = tt;
-      leads = All-nil (JoinsCells cells);
-      slots = refl;
-      some = λ event. refl;
-      newest = linked.newest;
-      ins = linked.ins;
-    }
-
 -- an index whose link was taken out
 newest_of-gap : (links : List (Option Link)) (event : ℕ) → newest_of (links ++ None ∷ []) event ≡ newest_of links event
 newest_of-gap links event = ap (λ l. newest_in l event) (reverse-append links (None ∷ []))
@@ -176,9 +163,6 @@ AreLinked-rebuilt old_cells cells links fresh k linked all was =
     end None None both = refl
     end None (Some at) both = absurd (both_ways true both refl)
     end (Some at) new both = refl
-
-pub pairs-rebuilt : (old_cells cells : Slab Cell) (links fresh : List (Option Link)) (k : ℕ) → length links ≤ k → IsRebuilt old_cells cells links fresh k → pairs_in fresh ≡ pairs_in links
-pairs-rebuilt old_cells cells links fresh k all was = was.pairs ∙ ap pairs_in (take_all k links all)
 
 -- the cell of a link's first event
 pub from_some : (old_cells cells : Slab Cell) (links fresh : List (Option Link)) (k : ℕ) (link : Link) → AreLinked old_cells links → k < length links → get_or links k None ≡ Some link → IsRebuilt old_cells cells links fresh k → event_at (slots_of cells) link.from ≡ Some link.first.0

@@ -34,37 +34,3 @@ pub JoinsCells-same : (old new : Slab Cell) (slot : Option Link) → slots_of ne
 JoinsCells-same old new None same joins = tt
 JoinsCells-same old new (Some link) same joins =
     record { from = ap (λ slots. event_at slots link.from) same ∙ joins.from; to = ap (λ slots. event_at slots link.to) same ∙ joins.to }
-
--- more room changes nothing of a graph
-pub IsSound-room : (keys : List (ℕ × ℕ)) (old new : Slab Cell) (links : List (Option Link)) (bare : List ℕ) → IsSound keys old links bare → new.slots ≡ old.slots → IsSound keys new links bare
-IsSound-room keys old new links bare sound same =
-    let slots : slots_of new ≡ slots_of old = ap (map slot_of) same in
-    let was : (key : ℕ) → get new key ≡ get old key = λ key. ap (λ slots. get_or slots key None) same in
-    record {
-      joined = sound.joined;
-      distinct = sound.distinct;
-      acyclic = sound.acyclic;
-      bare = sound.bare;
-      linked = record {
-        one_cell = λ c d event in_c in_d. sound.linked.one_cell c d event (ap (λ slots. event_at slots c) (sym slots) ∙ in_c) (ap (λ slots. event_at slots d) (sym slots) ∙ in_d);
-        chained = sound.linked.chained;
-        leads = λ k d below. JoinsCells-same old new (get_or links k d) slots (sound.linked.leads k d below);
-        newest = λ key cell at. sound.linked.newest key cell (sym (was key) ∙ at);
-        ins = λ key cell at. sound.linked.ins key cell (sym (was key) ∙ at);
-      };
-      placed = λ event key is. ap (λ slots. event_at slots key) slots ∙ sound.placed event key is;
-      listed = λ event key is. sound.listed event key (ap (λ slots. event_at slots key) (sym slots) ∙ is);
-    }
-
--- the bare events but the last
-pub IsSound-bare : (keys : List (ℕ × ℕ)) (cells : Slab Cell) (links : List (Option Link)) (old new : List ℕ) → IsSound keys cells links old → All (λ event. is_held (events_of keys) event ≡ true) new → IsSound keys cells links new
-IsSound-bare keys cells links old new sound bare =
-    record { joined = sound.joined; distinct = sound.distinct; acyclic = sound.acyclic; bare = bare; linked = sound.linked; placed = sound.placed; listed = sound.listed }
-
--- the cell of an event that has a key
-pub cell_at : (keys : List (ℕ × ℕ)) (cells : Slab Cell) (links : List (Option Link)) (bare : List ℕ) (event key : ℕ) → IsSound keys cells links bare → number_of keys event ≡ Some key → Holds cells key event
-cell_at keys cells links bare event key sound is = holds cells key event (sound.placed event key is)
-
--- the element behind a list
-pub get_or-last : {X : Type 0} (xs : List X) (x : X) (k : ℕ) (d : X) → k ≡ length xs → get_or (xs ++ x ∷ []) k d ≡ x
-get_or-last xs x k d is = ap (λ i. get_or (xs ++ x ∷ []) i d) (omega (arith, is)) ∙ get_or-append-add xs (x ∷ []) 0 d

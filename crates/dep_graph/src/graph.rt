@@ -1,6 +1,7 @@
 //! The graph: its events, and for each its count of predecessors and its successors.
 
-ghost use Rattle.std.specs.Prelude.{◌≡◌, ◌<◌, ◌≤◌, ◌+◌, ◌==◌, ℕ, [], ◌∷◌, ◌++◌, length, map, true, false, is_some, IsSome, IfSome, IfNone, OnOk, Some, vec_capacity};
+ghost use Rattle.std.specs.Prelude.{◌≡◌, ◌<◌, ◌≤◌, ◌+◌, ◌==◌, ℕ, [], ◌∷◌, ◌++◌, length, map, true, false, is_some, IsSome, IfSome};
+ghost use Rattle.std.specs.Prelude.{IfNone, OnOk, Some, vec_capacity};
 ghost use Rattle.std.specs.List.{All};
 ghost use Rattle.slab.specs.Slab.{Slab as Cells};
 ghost use Rattle.dep_graph.specs.GraphView.{is_held, event_at, outs_of, ins_of, without, pairs_without, bared_by, CanAdd, IsGraph};
@@ -56,7 +57,8 @@ impl Model for Graph {
       slots = slots_of g.cells;
     } };
 
-    ghost invariant = { λ g. IsSound g.keys.entries g.cells g.links.items g.bare.items × HasRoom g.links.items g.bare.items g.count (vec_capacity g.bare) };
+    ghost invariant = { λ g. IsSound g.keys.entries g.cells g.links.items g.bare.items
+        × HasRoom g.links.items g.bare.items g.count (vec_capacity g.bare) };
 }
 
 impl Graph {
@@ -259,7 +261,7 @@ impl Graph {
         ensures spare_vertices { self.old.spare_vertices ≤ self.new.spare_vertices }
         ensures spare_pairs { self.old.spare_pairs ≤ self.new.spare_pairs }
     {
-        self.known();
+        self.recall_graph();
         let key = self.cell_of(id).unwrap();
         self.drop_pairs(id, key);
         self.remove_vertex(id, key);
@@ -312,7 +314,8 @@ impl Graph {
     /// The successors of the event in the cell.
     pub fn outs_at(&self, cell: usize) -> Outs<'_>
         requires { IsSome (event_at self.now.slots cell) }
-        ensures events { (event : ℕ) → event_at self.now.slots cell ≡ Some event → map (λ out. out.1) result ≡ outs_of self.now.pairs event }
+        ensures events { (event : ℕ) → event_at self.now.slots cell ≡ Some event → map (λ out. out.1) result
+            ≡ outs_of self.now.pairs event }
         ensures cells { All (λ out. event_at self.now.slots out.0 ≡ Some out.1) result }
     {
         Outs::new(self.links.as_slice(), self.cells[cell].newest)
@@ -349,10 +352,10 @@ impl Graph {
         self.cells.capacity()
     }
 
-    /// What holds of every graph. It does nothing.
-    pub fn known(&self)
+    /// A proof step, which does nothing when it runs: what holds of every graph.
+    pub fn recall_graph(&self)
         ensures { IsGraph self.now }
     {
-        self.keys.known();
+        self.keys.recall_rising();
     }
 }

@@ -15,8 +15,6 @@ mod graph;
 mod links;
 mod outs;
 mod table;
-#[cfg(test)]
-mod tests;
 
 pub use graph::Graph;
 pub use outs::{Outs, Successor};

@@ -22,7 +22,8 @@ pub(crate) fn unlink(
     ensures some { IfSome result (λ link. IsTakenOut link.first.0 link.second.0 (pairs_in links.old.items) (pairs_in links.new.items)) }
     ensures first { IfSome result (λ link. event_at (slots_of cells.old) key ≡ Some link.first.0) }
     ensures second { IfSome result (λ link. event_at (slots_of cells.new) link.to ≡ Some link.second.0) }
-    ensures none { IfNone result ((event : ℕ) → event_at (slots_of cells.old) key ≡ Some event → outs_of (pairs_in links.old.items) event ≡ []) }
+    ensures none { IfNone result ((event : ℕ) → event_at (slots_of cells.old) key ≡ Some event → outs_of (pairs_in links.old.items) event
+        ≡ []) }
     ensures same_cells { IfNone result (cells.new ≡ cells.old) }
     ensures same_links { IfNone result (links.new ≡ links.old) }
     ensures linked { AreLinked cells.new links.new.items }

@@ -4,7 +4,8 @@
 //! memory. An event that is taken out leaves its place empty: a removal costs one look-up. Places are closed up by
 //! `reserve` once more are empty than not, so that there are never many more places than events.
 
-ghost use Rattle.std.specs.Prelude.{◌≡◌, ◌<◌, ◌≤◌, ◌+◌, ℕ, [], ◌∷◌, ◌++◌, length, Some, IfSome, IfNone, IsSome, OnOk, slice_get, map, vec_len, vec_capacity};
+ghost use Rattle.std.specs.Prelude.{◌≡◌, ◌<◌, ◌≤◌, ◌+◌, ℕ, [], ◌∷◌, ◌++◌, length, Some, IfSome, IfNone, IsSome, OnOk, slice_get, map};
+ghost use Rattle.std.specs.Prelude.{vec_len, vec_capacity};
 ghost use Rattle.std.specs.List.{All, AllPairs};
 ghost use Rattle.dep_graph.specs.Table.{AreRising, number_of, with_number, entries_without};
 ghost use Rattle.dep_graph.specs.Places.{entries_in, ArePlacesRising, IsPlaceAt, IsFilledAt, EndsFilled, EndsEmpty};
@@ -166,8 +167,8 @@ impl EventTable {
         self.filled
     }
 
-    /// What holds of every table. It does nothing.
-    pub fn known(&self)
+    /// A proof step, which does nothing when it runs: in every table the events rise.
+    pub fn recall_rising(&self)
         ensures { AreRising self.now.entries }
     {
         let _ = &self.places;

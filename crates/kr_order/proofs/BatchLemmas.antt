@@ -100,8 +100,3 @@ outcomes_from-true order (pair ∷ more) all =
 -- each outcome of a batch is true of the order with the batch
 pub outcomes_of-true : (order : List (ℕ × ℕ)) (batch : List Pair) → AllZip (IsTrueOf (pairs_with order batch)) batch (outcomes_of order batch)
 outcomes_of-true order batch = outcomes_from-true (musts_from order batch) batch (musts_hold order batch)
-
--- a batch has an outcome for each pair
-pub length-outcomes_from : (order : List (ℕ × ℕ)) (batch : List Pair) → length (outcomes_from order batch) ≡ length batch
-length-outcomes_from order [] = refl
-length-outcomes_from order (pair ∷ more) = omega (arith, length-outcomes_from (with_prefer order pair) more)

@@ -103,8 +103,3 @@ pairs_after-born (Assign batch) agreed over = IsBornOrder-more agreed.born 0 (pa
 
 pub over_born : (history : List Entry) → IsOverBorn (agreed_of history)
 over_born = agreed_keeps IsOverBorn (record { live = λ event some. absurd (omega arith); pairs = tt }) (λ agreed entry over. record { live = λ event. count_after-live entry.command agreed.born event (agreed.count event) (over.live event); pairs = pairs_after-born entry.command agreed over })
-
--- each pair of the order is of events that the history made
-pub pairs_are_born : (history : List Entry) → All (IsBornPair (born_in history)) (pairs_of history)
-pairs_are_born history =
-    All-from_recursion (IsBornPair (born_in history)) (pairs_of history) (subst (λ born. IsBornOrder born (pairs_of history)) (born-agreed history) (over_born history).pairs)

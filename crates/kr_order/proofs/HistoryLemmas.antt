@@ -102,11 +102,6 @@ done_from-append before (x ∷ xs) ys =
 pub done_of-push : (history : List Entry) (entry : Entry) → done_of (history ++ entry ∷ []) ≡ done_of history ++ done_after history entry ∷ []
 done_of-push history entry = done_from-append [] history (entry ∷ [])
 
--- the done entries of a history are the first of those of a longer one
-pub IsPrefix-done_of : (history longer : List Entry) → IsPrefix history longer → IsPrefix (done_of history) (done_of longer)
-IsPrefix-done_of history longer front =
-    record { more = done_from history front.more; is = ap done_of front.is ∙ done_from-append [] history front.more }
-
 -- each entry is done once
 pub length-done_from : (before xs : List Entry) → length (done_from before xs) ≡ length xs
 length-done_from before [] = refl
@@ -140,8 +135,3 @@ created-new history entry event create replied =
 -- the last entry of a client, one entry later
 pub last_of-push : (client : ClientId) (dones : List DoneEntry) (done : DoneEntry) → last_of client (dones ++ done ∷ []) ≡ cond (eqb done.entry.client.0 client.0) (Some done) (last_of client dones)
 last_of-push client dones done = ap (find (λ d. eqb d.entry.client.0 client.0)) (reverse-append dones (done ∷ []))
-
--- the entry that comes last in the history is its client's last
-pub last_of-own : (history : List Entry) (entry : Entry) → last_of entry.client (done_of (history ++ entry ∷ [])) ≡ Some (done_after history entry)
-last_of-own history entry =
-    ap (last_of entry.client) (done_of-push history entry) ∙ last_of-push entry.client (done_of history) (done_after history entry) ∙ ap (λ b. cond b (Some (done_after history entry)) (last_of entry.client (done_of history))) (eq-eqb entry.client.0 entry.client.0 refl)

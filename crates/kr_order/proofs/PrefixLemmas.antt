@@ -31,10 +31,6 @@ IsPrefix-length xs ys front = omega (arith, ap length front.is, length-append xs
 pub take_front : {X : Type 0} (xs ys : List X) → IsPrefix xs ys → take (length xs) ys ≡ xs
 take_front xs ys front = ap (take (length xs)) front.is ∙ take_at xs front.more (length xs) refl
 
--- a front has the list's items
-pub get_or_front : {X : Type 0} (xs ys : List X) (i : ℕ) (d : X) → IsPrefix xs ys → i < length xs → get_or ys i d ≡ get_or xs i d
-get_or_front xs ys i d front below = ap (λ l. get_or l i d) front.is ∙ get_or_append_left xs front.more d i below
-
 -- of two fronts of a list the shorter is a front of the longer
 pub shorter_front : {X : Type 0} (xs ys zs : List X) → IsPrefix xs zs → IsPrefix ys zs → length xs ≤ length ys → IsPrefix xs ys
 shorter_front xs ys zs one two le =

@@ -1,5 +1,6 @@
 pub mod Prefix
 pub mod Numbers
+pub mod Marks
 pub mod Order
 pub mod Batch
 pub mod History

@@ -41,7 +41,10 @@ each_before_next events = map (λ event. must event (event + 1)) events
 -- 30 events, and two batches that make one chain of them: pairs of neighbours, and then a pair between each two pairs
 abbrev pub chain_of_30 : List Command
 chain_of_30 =
-    replicate 30 create ++ assign (each_before_next (1 ∷ 3 ∷ 5 ∷ 7 ∷ 9 ∷ 11 ∷ 13 ∷ 15 ∷ 17 ∷ 19 ∷ 21 ∷ 23 ∷ 25 ∷ 27 ∷ 29 ∷ [])) ∷ assign (each_before_next (2 ∷ 4 ∷ 6 ∷ 8 ∷ 10 ∷ 12 ∷ 14 ∷ 16 ∷ 18 ∷ 20 ∷ 22 ∷ 24 ∷ 26 ∷ 28 ∷ [])) ∷ []
+    replicate 30 create
+    ++ assign (each_before_next (1 ∷ 3 ∷ 5 ∷ 7 ∷ 9 ∷ 11 ∷ 13 ∷ 15 ∷ 17 ∷ 19 ∷ 21 ∷ 23 ∷ 25 ∷ 27 ∷ 29 ∷ []))
+    ∷ assign (each_before_next (2 ∷ 4 ∷ 6 ∷ 8 ∷ 10 ∷ 12 ∷ 14 ∷ 16 ∷ 18 ∷ 20 ∷ 22 ∷ 24 ∷ 26 ∷ 28 ∷ []))
+    ∷ []
 
 -- events 1, 2 and 3 in a chain, and then 2 is dead
 abbrev pub dead_on_the_way : List Command

@@ -90,7 +90,8 @@ reply_text (Contradicts index) = codes "contradicts " ++ decimal index
 -- an entry's line, without its end
 abbrev pub done_text : DoneEntry → List ℕ
 done_text done =
-    decimal done.place ++ codes " " ++ client_text done.entry.client ++ codes " " ++ decimal done.entry.seq ++ codes " " ++ command_text done.entry.command ++ codes " = " ++ reply_text done.reply
+    decimal done.place ++ codes " " ++ client_text done.entry.client ++ codes " " ++ decimal done.entry.seq
+    ++ codes " " ++ command_text done.entry.command ++ codes " = " ++ reply_text done.reply
 
 -- an answer; the last is never printed
 abbrev pub answer_word : Answer → List ℕ
@@ -113,7 +114,8 @@ teller_text teller.Cache = codes "cache"
 -- what a part's line says behind its client
 abbrev pub part_text : ToldPart → List ℕ
 part_text part =
-    decimal part.q ++ codes " " ++ asked_word (part.a, part.b) ++ codes " " ++ answer_word part.answer ++ codes " at " ++ decimal part.entry ++ codes " by " ++ teller_text part.by
+    decimal part.q ++ codes " " ++ asked_word (part.a, part.b) ++ codes " " ++ answer_word part.answer
+    ++ codes " at " ++ decimal part.entry ++ codes " by " ++ teller_text part.by
 
 -- what a packet's line says of its message
 abbrev pub message_text : Message → List ℕ

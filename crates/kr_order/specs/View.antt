@@ -1,5 +1,6 @@
 -- Who is in a chain of servers, and who comes before and after whom.
-use Rattle.std.specs.Prelude.{ℕ, zero, suc, ◌+◌, ◌-◌, Bool, false, ◌&&◌, ◌==◌, if◌then◌else◌, length, map, position, slice_get, Option, None, Some, is_some, is_none}
+use Rattle.std.specs.Prelude.{ℕ, zero, suc, ◌+◌, ◌-◌, Bool, false, ◌&&◌, ◌||◌, ◌==◌, if◌then◌else◌, length, map, position, slice_get}
+use Rattle.std.specs.Prelude.{Option, None, Some, is_some, is_none}
 use Rattle.kr_order.specs.declared.ids.ServerId.{ServerId}
 use Rattle.kr_order.specs.declared.view.View.{View}
 use Rattle.kr_order.specs.Numbers.{numbers_to}
@@ -16,6 +17,10 @@ in_chain view id = is_some (index_in view id)
 abbrev pub is_joiner : Option ServerId → ServerId → Bool
 is_joiner None id = false
 is_joiner (Some joiner) id = joiner.0 == id.0
+
+-- the view names the server: as a member of its chain, or as its joiner
+abbrev pub names : View → ServerId → Bool
+names view id = in_chain view id || is_joiner view.joiner id
 
 -- the member, or where there is none the joiner
 abbrev pub or_joiner : Option ServerId → Option ServerId → Option ServerId

@@ -1,7 +1,9 @@
 //! The texts of ids, commands, replies, entries and messages, as scripts and transcripts spell them.
 
 ghost use Rattle.std.specs.Prelude.{Some};
-ghost use Rattle.kr_order.specs.Text.{client_text, server_text, node_text, pair_word, pair_words, command_text, outcome_word, outcome_words, reply_text, done_text, answer_word, message_text, teller_text, part_text};
+ghost use Rattle.kr_order.specs.Text.{client_text, server_text, node_text, pair_word, pair_words, command_text};
+ghost use Rattle.kr_order.specs.Text.{outcome_word, outcome_words, reply_text, done_text, answer_word};
+ghost use Rattle.kr_order.specs.Text.{message_text, teller_text, part_text};
 
 use crate::{
     Answer, ClientId, Command, DoneEntry, Kind, Message, Node, Outcome, Pair, Reply, ServerId,

@@ -2,7 +2,9 @@
 
 pub mod rows;
 
-ghost use Rattle.kr_order.specs.Laws.{LiveEventsAreBorn, CreatedEventIsNew, APathGoesOverAPair, TheOrderOnlyGrows, TheOrderStaysAcyclic, ABeforeIsNeverWithdrawn, OutcomesAreTrue, ARefusedBatchChangesNothing, CollectedEventsAreIdle};
+ghost use Rattle.kr_order.specs.Laws.{LiveEventsAreBorn, CreatedEventIsNew, APathGoesOverAPair, TheOrderOnlyGrows};
+ghost use Rattle.kr_order.specs.Laws.{TheOrderStaysAcyclic, ABeforeIsNeverWithdrawn, OutcomesAreTrue};
+ghost use Rattle.kr_order.specs.Laws.{ARefusedBatchChangesNothing, CollectedEventsAreIdle};
 
 /// A live event is one that was made.
 pub fn live_events_are_born()

@@ -18,8 +18,6 @@ mod list;
 mod message;
 mod size;
 mod steps;
-#[cfg(test)]
-mod tests;
 mod view;
 
 pub use answer::{Answer, Answers, Asked, Parts, Query, Teller, Told, ToldPart};

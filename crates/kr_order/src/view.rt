@@ -1,7 +1,7 @@
 //! Views: who is in the chain, and in which order.
 
 ghost use Rattle.std.specs.Prelude.{◌≡◌, ◌<◌, length, IfSome};
-ghost use Rattle.kr_order.specs.View.{index_in, in_chain, next_of, prev_of, is_tail, is_joiner};
+ghost use Rattle.kr_order.specs.View.{index_in, in_chain, names, last_member, next_of, prev_of, is_tail, is_joiner};
 
 use crate::{Copied, NoMemory, ServerId, Servers};
 use std::alloc::Global;
@@ -45,6 +45,21 @@ impl View {
         self.index_of(id).is_some()
     }
 
+    /// Whether the view names the server: as a member of its chain, or as its joiner.
+    pub fn names(&self, id: ServerId) -> bool
+        ensures { result ≡ names self.now id }
+    {
+        self.in_chain(id) || self.is_joiner(id)
+    }
+
+    /// The last member of the chain; `None` where it has no member.
+    pub fn last_member(&self) -> Option<ServerId>
+        ensures { result ≡ last_member self.now }
+    {
+        let members = self.chain.len();
+        self.chain.get(members.saturating_sub(1)).copied()
+    }
+
     /// The server that follows this one: the next member of the chain, or the joiner for the last member. `None`
     /// where none follows, and where the server is no member.
     pub fn next_of(&self, id: ServerId) -> Option<ServerId>
@@ -73,7 +88,7 @@ impl View {
             Some(i) => self.chain.get(i - 1).copied(),
             None => {
                 if self.is_joiner(id) {
-                    self.chain.get(self.chain.len().saturating_sub(1)).copied()
+                    self.last_member()
                 } else {
                     None
                 }

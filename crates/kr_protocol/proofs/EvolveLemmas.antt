@@ -10,8 +10,8 @@ use Rattle.std.proofs.lemmas.Option.{none-some, same_Some}
 use Rattle.kr_order.specs.declared.ids.ServerId.{ServerId}
 use Rattle.kr_order.specs.declared.view.View.{View}
 use Rattle.kr_order.specs.Numbers.{numbers_to}
-use Rattle.kr_order.specs.View.{in_chain, is_joiner, first_view}
-use Rattle.kr_protocol.specs.Manager.{names, joiner_but, without, with_joiner, promoted}
+use Rattle.kr_order.specs.View.{in_chain, is_joiner, first_view, names}
+use Rattle.kr_protocol.specs.Manager.{joiner_but, without, with_joiner, promoted}
 use Rattle.kr_protocol.specs.Evolves.{IsNext, is_without, is_joined, is_promoted, leads_nowhere, leads_on, IsRising, TheFirstViewRises, AreEarlierAndLater, LaterViewsFollow}
 use Rattle.kr_protocol.proofs.NameLemmas.{member, in_chain-member, same_server, member-push, member-but, gone-member, joiner-but, gone-joiner, member-at, named_cases}
 
@@ -26,10 +26,6 @@ or_cases false b is = inr is
 or_left : (a b : Bool) → a ≡ true → (a || b) ≡ true
 or_left true b is = refl
 or_left false b is = absurd (false≢true is)
-
-or_right : (a b : Bool) → b ≡ true → (a || b) ≡ true
-or_right true b is = refl
-or_right false b is = is
 
 -- who is named by the view without one is named by that view, and is another
 record IsStill (view : View) (gone id : ServerId) : Type 0 where

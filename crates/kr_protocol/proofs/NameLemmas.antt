@@ -5,8 +5,8 @@ use Rattle.std.specs.List.{position_or_len}
 use Rattle.std.proofs.lemmas.Bool.{eqb-true, eq-eqb, ne_eqb, cases_lt, lt-ltb, le-ltb}
 use Rattle.kr_order.specs.declared.ids.ServerId.{ServerId}
 use Rattle.kr_order.specs.declared.view.View.{View}
-use Rattle.kr_order.specs.View.{in_chain, is_joiner}
-use Rattle.kr_protocol.specs.Manager.{names, members_but, joiner_but}
+use Rattle.kr_order.specs.View.{in_chain, is_joiner, names}
+use Rattle.kr_protocol.specs.Manager.{members_but, joiner_but}
 
 -- the server is among these
 abbrev pub member : List ServerId → ServerId → Bool

@@ -7,8 +7,7 @@ use Rattle.std.proofs.lemmas.List.Quantifiers.{position-Some}
 use Rattle.std.proofs.lemmas.List.Sums.{position_or_len_is}
 use Rattle.kr_order.specs.declared.ids.ServerId.{ServerId}
 use Rattle.kr_order.specs.declared.view.View.{View}
-use Rattle.kr_order.specs.View.{index_in, in_chain, is_joiner, or_joiner, next_at, next_of, last_member, prev_at, prev_of, is_tail}
-use Rattle.kr_protocol.specs.Manager.{names}
+use Rattle.kr_order.specs.View.{index_in, in_chain, is_joiner, or_joiner, next_at, next_of, last_member, prev_at, prev_of, is_tail, names}
 use Rattle.kr_protocol.specs.Evolves.{IsRising}
 use Rattle.kr_protocol.proofs.NameLemmas.{same_server, joiner_named}
 

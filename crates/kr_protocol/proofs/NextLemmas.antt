@@ -5,8 +5,8 @@ use Rattle.std.proofs.lemmas.Bool.{cases_eq, eq-eqb, false≢true}
 use Rattle.std.proofs.lemmas.Option.{none-some, same_Some, slice_get_past}
 use Rattle.kr_order.specs.declared.ids.ServerId.{ServerId}
 use Rattle.kr_order.specs.declared.view.View.{View}
-use Rattle.kr_order.specs.View.{in_chain, is_joiner, last_member, prev_of, first_view}
-use Rattle.kr_protocol.specs.Manager.{Manager, names, views_of, with_joiner}
+use Rattle.kr_order.specs.View.{in_chain, is_joiner, last_member, prev_of, first_view, names}
+use Rattle.kr_protocol.specs.Manager.{Manager, views_of, with_joiner}
 use Rattle.kr_protocol.specs.Evolves.{IsNext, is_without, is_joined, is_promoted, Evolves, begins, goes_on}
 use Rattle.kr_protocol.proofs.NameLemmas.{joiner_named}
 use Rattle.kr_protocol.proofs.EvolveLemmas.{named_still, promoted_names}

@@ -43,20 +43,20 @@ entered_log server entry = by_test (is_at_tail (appended server (entry ∷ [])))
     by_test false = refl
 
 -- what a request does to the server: nothing, or the log has its command afterwards
-abbrev Settles : Server → Entry → Reaction Server → Type 0
-Settles server entry reaction = (reaction.after ≡ server) ⊎ (entry.seq ≤ highest_seq entry.client reaction.after.log)
+abbrev Adds : Server → Entry → Reaction Server → Type 0
+Adds server entry reaction = (reaction.after ≡ server) ⊎ (entry.seq ≤ highest_seq entry.client reaction.after.log)
 
-enters_new_settles : (server : Server) (entry : Entry) (test : Bool) → Settles server entry (cond test (enters server entry) (ignored server))
-enters_new_settles server entry true = inr (subst (λ log. entry.seq ≤ highest_seq entry.client log) (sym (entered_log server entry)) (entry_within server.log entry))
-enters_new_settles server entry false = inl refl
+enters_new_adds : (server : Server) (entry : Entry) (test : Bool) → Adds server entry (cond test (enters server entry) (ignored server))
+enters_new_adds server entry true = inr (subst (λ log. entry.seq ≤ highest_seq entry.client log) (sym (entered_log server entry)) (entry_within server.log entry))
+enters_new_adds server entry false = inl refl
 
-requested_settles : (server : Server) (entry : Entry) (last : Option DoneEntry) → Settles server entry (requested server entry last)
-requested_settles server entry None = enters_new_settles server entry (may_enter server entry)
-requested_settles server entry (Some last) = by_test (eqb last.entry.seq entry.seq)
+requested_adds : (server : Server) (entry : Entry) (last : Option DoneEntry) → Adds server entry (requested server entry last)
+requested_adds server entry None = enters_new_adds server entry (may_enter server entry)
+requested_adds server entry (Some last) = by_test (eqb last.entry.seq entry.seq)
   where
-    by_test : (test : Bool) → Settles server entry (cond test (sends server (reply_packet server.id last ∷ [])) (enters_new server entry))
+    by_test : (test : Bool) → Adds server entry (cond test (sends server (reply_packet server.id last ∷ [])) (enters_new server entry))
     by_test true = inl refl
-    by_test false = enters_new_settles server entry (may_enter server entry)
+    by_test false = enters_new_adds server entry (may_enter server entry)
 
 -- a command that the log has leaves it as it is
 not_entered : (server : Server) (entry : Entry) (newer : Bool) → ltb (highest_seq entry.client server.log) entry.seq ≡ newer → entry.seq ≤ highest_seq entry.client server.log → (enters_new server entry).after.log ≡ server.log
@@ -88,19 +88,19 @@ request_known server client seq command known = by_test (is_member server)
     by_test true = known_again server (asks_for client seq command) last known
     by_test false = refl
 
-request_settles : (server : Server) (client : ClientId) (seq : ℕ) (command : Command) → Settles server (asks_for client seq command) (after_request server client seq command)
-request_settles server client seq command = by_test (is_member server)
+request_adds : (server : Server) (client : ClientId) (seq : ℕ) (command : Command) → Adds server (asks_for client seq command) (after_request server client seq command)
+request_adds server client seq command = by_test (is_member server)
   where
     last : Option DoneEntry
     last = last_of client (done_of (acknowledged server))
 
-    by_test : (test : Bool) → Settles server (asks_for client seq command) (cond test (requested server (asks_for client seq command) last) (ignored server))
-    by_test true = requested_settles server (asks_for client seq command) last
+    by_test : (test : Bool) → Adds server (asks_for client seq command) (cond test (requested server (asks_for client seq command) last) (ignored server))
+    by_test true = requested_adds server (asks_for client seq command) last
     by_test false = inl refl
 
 request_again : (server : Server) (client : ClientId) (seq : ℕ) (command : Command) → (after_request (after_request server client seq command).after client seq command).after.log ≡ (after_request server client seq command).after.log
 request_again server client seq command =
-    elim (request_settles server client seq command) [
+    elim (request_adds server client seq command) [
       | inl same ↦ ap (λ (s : Server). (after_request s client seq command).after.log) same
       | inr known ↦ request_known (after_request server client seq command).after client seq command known
     ]

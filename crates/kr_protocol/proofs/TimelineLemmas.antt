@@ -8,8 +8,8 @@ use Rattle.std.proofs.lemmas.Option.{none-some, same_Some, slice_get_within, sli
 use Rattle.kr_order.specs.declared.ids.ServerId.{ServerId}
 use Rattle.kr_order.specs.declared.view.View.{View}
 use Rattle.kr_order.specs.Numbers.{numbers_to}
-use Rattle.kr_order.specs.View.{first_view}
-use Rattle.kr_protocol.specs.Manager.{Manager, names, joiner_but, views_of, named_by, goes_to}
+use Rattle.kr_order.specs.View.{first_view, names}
+use Rattle.kr_protocol.specs.Manager.{Manager, joiner_but, views_of, named_by, goes_to}
 use Rattle.kr_protocol.specs.Evolves.{IsNext, is_without, is_joined, is_promoted, Evolves, begins, goes_on, IsRising, AreEarlierAndLater}
 use Rattle.kr_protocol.proofs.NameLemmas.{fewer}
 use Rattle.kr_protocol.proofs.EvolveLemmas.{itself_follows, next_follows, follows_on, first_rises}

@@ -1,5 +1,6 @@
 -- One client: it has one open call at a time, and is told its reply, or the answers to its pairs.
-use Rattle.std.specs.Prelude.{Bool, true, false, not, ◌&&◌, ◌||◌, is_some, ℕ, ◌+◌, List, [], ◌∷◌, ◌==◌, nat_lt, max, if◌then◌else◌, Option, None, Some}
+use Rattle.std.specs.Prelude.{Bool, true, false, not, ◌&&◌, ◌||◌, is_some, ℕ, ◌+◌, List, []}
+use Rattle.std.specs.Prelude.{◌∷◌, ◌==◌, nat_lt, max, if◌then◌else◌, Option, None, Some}
 use Rattle.kr_order.specs.declared.ids.ClientId.{ClientId}
 use Rattle.kr_order.specs.declared.ids.ServerId.{ServerId}
 use Rattle.kr_order.specs.declared.history.Command.{Command}
@@ -75,7 +76,10 @@ says client server message = record { from = ToClient client.id; to = Server ser
 -- the client opens a command and sends its request
 abbrev pub begins : Client → Command → Reaction Client
 begins client command =
-    record { after = record client { seq = client.seq + 1; call = Some command }; sent = says client (head client) (Request (client.seq + 1) command) ∷ [] }
+    record {
+      after = record client { seq = client.seq + 1; call = Some command };
+      sent = says client (head client) (Request (client.seq + 1) command) ∷ [];
+    }
 
 -- the open query's remaining pairs are asked once more
 abbrev pub asked_again : Client → ServerId → Option (List (EventId × EventId)) → List Packet
@@ -141,7 +145,8 @@ asks client server pairs = asks_for client server (looks_all (client.q + 1) clie
 -- the reply of its open command closes it
 abbrev pub closes : Client → Placed → Hearing
 closes client placed =
-    record (unheard (record client { call = None; seen = max client.seen placed.place })) { told = Some (record { seq = client.seq; placed = placed }) }
+    record (unheard (record client { call = None; seen = max client.seen placed.place }))
+    { told = Some (record { seq = client.seq; placed = placed }) }
 
 abbrev pub after_reply : Client → Option Command → ℕ → Placed → Hearing
 after_reply client None seq placed = unheard client
@@ -190,7 +195,9 @@ abbrev pub remembers_all : List CacheItem → ℕ → List (EventId × EventId) 
 remembers_all cache entry [] answers = cache
 remembers_all cache entry (pair ∷ pairs) [] = cache
 remembers_all cache entry (pair ∷ pairs) (answer ∷ answers) =
-    remembers_all (if is_lasting pair.0.0 pair.1.0 answer then remembers most_remembered cache pair.0.0 pair.1.0 answer entry else cache) entry pairs answers
+    remembers_all
+    (if is_lasting pair.0.0 pair.1.0 answer then remembers most_remembered cache pair.0.0 pair.1.0 answer entry else cache)
+    entry pairs answers
 
 -- the answers to the remaining pairs of its open query: what is sure is told, and the pairs that are left are asked of
 -- the last server, if some are
@@ -202,13 +209,19 @@ answered client pairs by told =
       seen = max client.seen told.entry;
       cache = remembers_all client.cache told.entry pairs told.answers;
     } in
-    record { after = after; told = None; parts = parts_of client.q told.entry by pairs told.answers; sent = asked_again after (last client) after.asking }
+    record {
+      after = after;
+      told = None;
+      parts = parts_of client.q told.entry by pairs told.answers;
+      sent = asked_again after (last client) after.asking;
+    }
 
 -- answers count where the query is open at this part, and they can be its answers
 abbrev pub after_answers : Client → Option (List (EventId × EventId)) → Teller → ℕ → ℕ → Told → Hearing
 after_answers client None by q part told = unheard client
 after_answers client (Some pairs) by q part told =
-    if q == client.q && (part == client.part && may_answer_all part pairs told.answers) then answered client pairs by told else unheard client
+    if q == client.q && (part == client.part && may_answer_all part pairs told.answers) then answered client pairs by told
+    else unheard client
 
 -- and where a server sent them
 abbrev pub answers_from : Client → nodes.Node → ℕ → ℕ → Told → Hearing

@@ -3,8 +3,8 @@ use Rattle.std.specs.Prelude.{◌≡◌, Bool, ℕ, ◌+◌, ◌≤◌, ◌<◌,
 use Rattle.std.specs.List.{AllPairs}
 use Rattle.kr_order.specs.declared.ids.ServerId.{ServerId}
 use Rattle.kr_order.specs.declared.view.View.{View}
-use Rattle.kr_order.specs.View.{in_chain, first_view}
-use Rattle.kr_protocol.specs.Manager.{Manager, names, members_but, without, with_joiner, promoted, new_manager, goes_to}
+use Rattle.kr_order.specs.View.{in_chain, first_view, names}
+use Rattle.kr_protocol.specs.Manager.{Manager, members_but, without, with_joiner, promoted, new_manager, goes_to}
 
 -- the next view of one that was current when so many servers were made, and how many then are: without a server that
 -- has stopped, with a new one, or with the joiner as a member. A member is left.

@@ -5,4 +5,5 @@ use Rattle.kr_protocol.specs.Server.{Server, server_takes}
 
 abbrev pub RepeatsChangeNothing : Type 0
 RepeatsChangeNothing =
-    (server : Server) (packet : Packet) → (server_takes (server_takes server packet).after packet).after.log ≡ (server_takes server packet).after.log
+    (server : Server) (packet : Packet)
+    → (server_takes (server_takes server packet).after packet).after.log ≡ (server_takes server packet).after.log

@@ -1,16 +1,12 @@
 -- The manager of a chain: which views it makes.
-use Rattle.std.specs.Prelude.{ℕ, ◌+◌, Bool, false, not, ◌&&◌, ◌||◌, ◌==◌, if◌then◌else◌, List, [], ◌∷◌, ◌++◌, filter, map, Option, None, Some}
+use Rattle.std.specs.Prelude.{ℕ, ◌+◌, Bool, false, not, ◌&&◌, ◌==◌, if◌then◌else◌, List, [], ◌∷◌, ◌++◌, filter, map, Option, None, Some}
 use Rattle.std.specs.Option.{option_to_list}
 use Rattle.kr_order.specs.declared.ids.ServerId.{ServerId}
 use Rattle.kr_order.specs.declared.message.Node.TheVariants as nodes
 use Rattle.kr_order.specs.declared.message.Message.TheVariants.{NewView}
 use Rattle.kr_order.specs.declared.message.Packet.{Packet}
 use Rattle.kr_order.specs.declared.view.View.{View}
-use Rattle.kr_order.specs.View.{in_chain, is_joiner, last_member, first_view}
-
--- the view names the server: as a member of its chain, or as its joiner
-abbrev pub names : View → ServerId → Bool
-names view id = in_chain view id || is_joiner view.joiner id
+use Rattle.kr_order.specs.View.{last_member, first_view}
 
 -- the members but this one
 abbrev pub members_but : List ServerId → ServerId → List ServerId

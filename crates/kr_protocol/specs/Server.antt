@@ -1,5 +1,7 @@
 -- One server of a chain: what it does with each message, and when it works.
-use Rattle.std.specs.Prelude.{length, map, take, drop, min, max, nat_le, ℕ, ◌+◌, ◌-◌, List, [], ◌∷◌, ◌++◌, ◌==◌, nat_lt, find, is_some, is_none, Bool, true, false, not, ◌&&◌, ◌||◌, if◌then◌else◌, Option, None, Some}
+use Rattle.std.specs.Prelude.{length, map, take, drop, min, max, nat_le, ℕ, ◌+◌, ◌-◌, List, []}
+use Rattle.std.specs.Prelude.{◌∷◌, ◌++◌, ◌==◌, nat_lt, find, is_some, is_none, Bool, true, false}
+use Rattle.std.specs.Prelude.{not, ◌&&◌, ◌||◌, if◌then◌else◌, Option, None, Some}
 use Rattle.kr_order.specs.declared.ids.ClientId.{ClientId}
 use Rattle.kr_order.specs.declared.ids.ServerId.{ServerId}
 use Rattle.kr_order.specs.declared.ids.EventId.{EventId}
@@ -17,9 +19,8 @@ use Rattle.kr_order.specs.declared.message.Packet.{Packet}
 use Rattle.kr_order.specs.declared.view.View.{View}
 use Rattle.kr_order.specs.History.{highest_seq}
 use Rattle.kr_order.specs.Done.{done_of, last_of}
-use Rattle.kr_order.specs.View.{in_chain, last_member, next_of, prev_of, is_tail, is_head}
+use Rattle.kr_order.specs.View.{in_chain, last_member, next_of, prev_of, is_tail, is_head, names}
 use Rattle.kr_protocol.specs.Reaction.{Reaction, ignored}
-use Rattle.kr_protocol.specs.Manager.{names}
 
 -- a server: the commands in its log, how many of them are acknowledged, the view that it has adopted, how many
 -- entries the next server is known to have, how many a joiner behind it has to have before it may become a member, and
@@ -105,7 +106,9 @@ next_entries server = take most_entries (drop server.fed server.log)
 abbrev pub window_of : ServerId → Option ServerId → ℕ → List Entry → List Packet
 window_of id None fed log = []
 window_of id (Some to) fed log =
-    if nat_lt fed (length log) then record { from = FromServer id; to = FromServer to; message = Append (fed + 1) (take most_entries (drop fed log)) } ∷ [] else []
+    if nat_lt fed (length log)
+    then record { from = FromServer id; to = FromServer to; message = Append (fed + 1) (take most_entries (drop fed log)) } ∷ []
+    else []
 
 abbrev pub window_to : Server → Option ServerId → List Packet
 window_to server to = window_of server.id to server.fed server.log
@@ -131,7 +134,11 @@ ack server = ack_to server (prev server)
 -- the reply of an applied entry, for its client
 abbrev pub reply_packet : ServerId → DoneEntry → Packet
 reply_packet id done =
-    record { from = FromServer id; to = Client done.entry.client; message = Replied done.entry.seq (record { place = done.place; reply = done.reply }) }
+    record {
+      from = FromServer id;
+      to = Client done.entry.client;
+      message = Replied done.entry.seq (record { place = done.place; reply = done.reply });
+    }
 
 -- the client has an entry among these
 abbrev pub is_among : ClientId → List DoneEntry → Bool
@@ -150,7 +157,8 @@ newly_applied server upto = drop server.done (done_of (take upto server.log))
 -- so many entries are acknowledged: those that were not before are applied, and the tail replies to their clients
 abbrev pub advances : Server → ℕ → Reaction Server
 advances server upto =
-    sends (record server { done = upto }) (if is_at_tail server then map (reply_packet server.id) (lasts (newly_applied server upto)) else [])
+    sends (record server { done = upto })
+    (if is_at_tail server then map (reply_packet server.id) (lasts (newly_applied server upto)) else [])
 
 -- entries go to the end of the log
 abbrev pub appended : Server → List Entry → Server
@@ -161,12 +169,12 @@ abbrev pub advances_at_tail : Server → Reaction Server
 advances_at_tail server = if is_at_tail server then advances server (length server.log) else sends server []
 
 -- what stands in the log is acknowledged by the tail, and passed on by another
-abbrev pub settles : Server → Reaction Server
-settles server = if is_at_tail server then advances server (length server.log) else sends server (window server)
+abbrev pub commits_or_passes_on : Server → Reaction Server
+commits_or_passes_on server = if is_at_tail server then advances server (length server.log) else sends server (window server)
 
 -- a new entry goes to the end of the first member's log, and on to the next server, if there is one
 abbrev pub enters : Server → Entry → Reaction Server
-enters server entry = settles (appended server (entry ∷ []))
+enters server entry = commits_or_passes_on (appended server (entry ∷ []))
 
 -- the first member takes a command whose number is greater than those of all the client's commands in its log
 abbrev pub may_enter : Server → Entry → Bool
@@ -184,7 +192,9 @@ requested server entry (Some last) =
 -- a member of the chain takes a client's request
 abbrev pub after_request : Server → ClientId → ℕ → Command → Reaction Server
 after_request server client seq command =
-    if is_member server then requested server (record { client = client; seq = seq; command = command }) (last_of client (done_of (acknowledged server))) else ignored server
+    if is_member server
+    then requested server (record { client = client; seq = seq; command = command }) (last_of client (done_of (acknowledged server)))
+    else ignored server
 
 -- those of the entries, the first of which stands at the place, that the log lacks; none where there is a gap
 abbrev pub missing : List Entry → ℕ → List Entry → List Entry
@@ -226,10 +236,14 @@ abbrev pub tells_joined : Server → ServerId → ℕ → Reaction Server
 tells_joined server from len =
     sends server (if is_server (behind server) from && nat_le server.need len then joined_packet server from ∷ [] else [])
 
+-- so many entries are acknowledged to the next server, and it has so many: of neither more than this log has
+abbrev pub acknowledges_and_feeds : Server → ℕ → ℕ → Reaction Server
+acknowledges_and_feeds server done len =
+    follows (acknowledges server (min done (length server.log))) (λ after. feeds after (min len (length after.log)))
+
 -- what the next server says of itself: what is acknowledged to it, and what it has
 abbrev pub hears : Server → ServerId → ℕ → ℕ → Reaction Server
-hears server from done len =
-    follows (follows (acknowledges server (min done (length server.log))) (λ after. feeds after (min len (length after.log)))) (λ after. tells_joined after from len)
+hears server from done len = follows (acknowledges_and_feeds server done len) (λ after. tells_joined after from len)
 
 -- an acknowledgement counts where the next server sent it
 abbrev pub after_ack : Server → ServerId → ℕ → ℕ → Reaction Server
@@ -279,19 +293,26 @@ after_view server view = if may_adopt server view then adopts server view else i
 abbrev pub most_waiting : ℕ
 most_waiting = 64
 
--- only the tail answers the pairs of a query that are asked again
-abbrev pub is_for_tail : Server → Query → Bool
-is_for_tail server query = query.part == 2 && not (is_at_tail server)
+-- only the tail answers the pairs of a query that are asked again, which are its second part
+abbrev pub is_for_tail_alone : Bool → ℕ → Bool
+is_for_tail_alone tail part = part == 2 && not tail
 
--- the client is told which view the server has adopted, and to ask another
+abbrev pub is_for_tail : Server → Query → Bool
+is_for_tail server query = is_for_tail_alone (is_at_tail server) query.part
+
+-- a query's client is told which view the server of this id has adopted, and to ask another
+abbrev pub referred : ServerId → View → Query → Packet
+referred id view query =
+    record { from = FromServer id; to = Client query.client; message = Refer query.q query.part view }
+
 abbrev pub refer_packet : Server → View → Query → Packet
-refer_packet server view query =
-    record { from = FromServer server.id; to = Client query.client; message = Refer query.q query.part view }
+refer_packet server view query = referred server.id view query
 
 -- the query joins the end of those that wait
 abbrev pub waits : Server → Query → Reaction Server
 waits server query =
-    if nat_le most_waiting (length server.waiting) then ignored server else sends (record server { waiting = server.waiting ++ query ∷ [] }) []
+    if nat_le most_waiting (length server.waiting) then ignored server
+    else sends (record server { waiting = server.waiting ++ query ∷ [] }) []
 
 -- a server that is no member of the chain, and one that is not the tail where only the tail answers, refers the client
 -- to its view
@@ -336,20 +357,26 @@ server_takes server packet = taken_from server packet.from packet.message
 abbrev pub told_by : Bool → List Answer → List Answer
 told_by tail answers = if tail then answers else map partial answers
 
--- what the server says to these pairs
-abbrev pub answers_of : Server → List (EventId × EventId) → List Answer
-answers_of server pairs = told_by (is_at_tail server) (answers_after (acknowledged server) pairs)
+-- the answers to a query by the server of this id, which is the tail or not, after so many entries, which are these
+abbrev pub answered : ServerId → Bool → ℕ → List Entry → Query → Packet
+answered id tail entry history query =
+    record {
+      from = FromServer id;
+      to = Client query.client;
+      message = Answered query.q query.part (record { entry = entry; answers = told_by tail (answers_after history query.pairs) });
+    }
 
--- the answers to a query, for the client that asked it
 abbrev pub answer_packet : Server → Query → Packet
-answer_packet server query =
-    record { from = FromServer server.id; to = Client query.client; message = Answered query.q query.part (record { entry = server.done; answers = answers_of server query.pairs }) }
+answer_packet server query = answered server.id (is_at_tail server) server.done (acknowledged server) query
 
 -- what a query that waits is told: which view the server has adopted, where only the tail answers it; else the answers
+abbrev pub worked_off : ServerId → Option View → Bool → ℕ → List Entry → Query → Packet
+worked_off id None tail entry history query = answered id tail entry history query
+worked_off id (Some view) tail entry history query =
+    if is_for_tail_alone tail query.part then referred id view query else answered id tail entry history query
+
 abbrev pub worked_in : Server → Query → Option View → Packet
-worked_in server query None = answer_packet server query
-worked_in server query (Some view) =
-    if is_for_tail server query then refer_packet server view query else answer_packet server query
+worked_in server query view = worked_off server.id view (is_at_tail server) server.done (acknowledged server) query
 
 abbrev pub work_packet : Server → Query → Packet
 work_packet server query = worked_in server query server.view

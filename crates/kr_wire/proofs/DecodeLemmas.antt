@@ -3,8 +3,8 @@ use Rattle.std.proofs.Common.{◌≡◌, ℕ, ◌+◌, ◌-◌, ◌≤◌, cond,
 use Rattle.std.proofs.lemmas.Bool.{eqb-true}
 use Rattle.std.proofs.lemmas.List.{append-nil, nil_from_length, drop_at, take-append-drop, length-append}
 use Rattle.kr_order.specs.declared.message.Packet.{Packet}
-use Rattle.kr_wire.specs.declared.stop.Stop.{Stop}
-use Rattle.kr_wire.specs.declared.stop.Stop.TheVariants as stop
+use Rattle.kr_wire.specs.declared.stop.FieldError.{FieldError}
+use Rattle.kr_wire.specs.declared.stop.FieldError.TheVariants as stop
 use Rattle.kr_wire.specs.declared.stop.WireError.{WireError}
 use Rattle.kr_wire.specs.declared.stop.WireError.TheVariants.{Refused, NoMemory}
 use Rattle.kr_wire.specs.Valid.{IsPacket}
@@ -40,7 +40,7 @@ decoded bytes packet read other fit is =
     inl (ap (λ p. Ok p) same)
 
 -- bytes that are not read spell no packet
-pub refused : (bytes : List ℕ) (e : Stop) (error : WireError) → Fails e (packet_in bytes) → Refuses e error → Decodes bytes (Err error)
+pub refused : (bytes : List ℕ) (e : FieldError) (error : WireError) → Fails e (packet_in bytes) → Refuses e error → Decodes bytes (Err error)
 refused bytes (stop.Broken left) (Refused at) fails refuses = λ packet fit is.
     let again : packet_in bytes ≡ Ok packet = ap packet_in is ∙ packet_in_again packet fit in
     absurd cc
@@ -49,7 +49,7 @@ refused bytes stop.NoMemory (Refused at) fails refuses = absurd cc
 refused bytes stop.NoMemory NoMemory fails refuses = tt
 
 -- the same, where they spell one
-pub refused_none : (bytes : List ℕ) (e : Stop) (error : WireError) → Fails e (packet_in bytes) → Refuses e error → IsDecoded bytes (Err error)
+pub refused_none : (bytes : List ℕ) (e : FieldError) (error : WireError) → Fails e (packet_in bytes) → Refuses e error → IsDecoded bytes (Err error)
 refused_none bytes (stop.Broken left) error fails refuses = λ packet fit is.
     let again : packet_in bytes ≡ Ok packet = ap packet_in is ∙ packet_in_again packet fit in
     absurd cc
@@ -65,7 +65,7 @@ read_at reader text Fits reads bytes at x rest within fits e =
     (t.fit, t.parts ∙ ap (λ r. text x ++ r) (sym behind), omega arith)
 
 -- what is not read is not spelt there
-pub not_read_at : {item : Type 0} (reader : List ℕ → Read item) (text : item → List ℕ) (Fits : item → Type 0) → IsRead reader text Fits → (bytes : List ℕ) (at : ℕ) (e : Stop) (error : WireError) → Fails e (reader (drop at bytes)) → Refuses e error → ReadsAt text Fits bytes at (Err error)
+pub not_read_at : {item : Type 0} (reader : List ℕ → Read item) (text : item → List ℕ) (Fits : item → Type 0) → IsRead reader text Fits → (bytes : List ℕ) (at : ℕ) (e : FieldError) (error : WireError) → Fails e (reader (drop at bytes)) → Refuses e error → ReadsAt text Fits bytes at (Err error)
 not_read_at reader text Fits reads bytes at (stop.Broken left) (Refused place) fails refuses = λ x rest fit is.
     let again : reader (drop at bytes) ≡ Ok (x, rest) = ap reader is ∙ reads.again x rest fit in
     absurd cc

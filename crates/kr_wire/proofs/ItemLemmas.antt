@@ -4,8 +4,8 @@ use Rattle.std.proofs.lemmas.List.{append-nil}
 use Rattle.std.specs.Int.{w32}
 use Rattle.kr_order.specs.declared.ids.ServerId.{ServerId}
 use Rattle.kr_wire.specs.Valid.{last_id}
-use Rattle.kr_wire.specs.declared.stop.Stop.{Stop}
-use Rattle.kr_wire.specs.declared.stop.Stop.TheVariants as stop
+use Rattle.kr_wire.specs.declared.stop.FieldError.{FieldError}
+use Rattle.kr_wire.specs.declared.stop.FieldError.TheVariants as stop
 use Rattle.kr_wire.specs.Reading.{◌>>=◌, Read, Fails, items_at, above, rising_at, server_of}
 
 -- what was read before, and what is still read
@@ -25,7 +25,7 @@ goes_on reader front count i bytes one after total lt h so_far =
     sym step ∙ so_far
 
 -- an item is not read
-pub breaks : {item : Type 0} (reader : List ℕ → Read item) (e : Stop) (front : List item) (count i : ℕ) (bytes : List ℕ) (total : Read (List item)) → i < count → Fails e (reader bytes) → with_front front (items_at reader (count - i) bytes) ≡ total → Fails e total
+pub breaks : {item : Type 0} (reader : List ℕ → Read item) (e : FieldError) (front : List item) (count i : ℕ) (bytes : List ℕ) (total : Read (List item)) → i < count → Fails e (reader bytes) → with_front front (items_at reader (count - i) bytes) ≡ total → Fails e total
 unfolding items_at
 breaks reader stop.NoMemory front count i bytes total lt h so_far = tt
 breaks reader (stop.Broken left) front count i bytes total lt h so_far =
@@ -52,7 +52,7 @@ rises_on front count i low bytes id after total lt h so_far =
     sym step ∙ so_far
 
 -- an id is not read
-pub rises_not : (e : Stop) (front : List ServerId) (count i low : ℕ) (bytes : List ℕ) (total : Read (List ServerId)) → i < count → Fails e (above w32 low bytes) → with_front front (rising_at (count - i) low bytes) ≡ total → Fails e total
+pub rises_not : (e : FieldError) (front : List ServerId) (count i low : ℕ) (bytes : List ℕ) (total : Read (List ServerId)) → i < count → Fails e (above w32 low bytes) → with_front front (rising_at (count - i) low bytes) ≡ total → Fails e total
 unfolding rising_at
 rises_not stop.NoMemory front count i low bytes total lt h so_far = tt
 rises_not (stop.Broken left) front count i low bytes total lt h so_far =

@@ -2,8 +2,8 @@
 use Rattle.std.specs.Prelude.{◌≡◌, ◌≢◌, ◌≤◌, ◌⊎◌, ℕ, List, ◌++◌, length, drop, Option, Some, Result, Ok, Err}
 use Rattle.kr_order.specs.declared.message.Node.{Node}
 use Rattle.kr_order.specs.declared.message.Packet.{Packet}
-use Rattle.kr_wire.specs.declared.stop.Stop.{Stop}
-use Rattle.kr_wire.specs.declared.stop.Stop.TheVariants as stop
+use Rattle.kr_wire.specs.declared.stop.FieldError.{FieldError}
+use Rattle.kr_wire.specs.declared.stop.FieldError.TheVariants as stop
 use Rattle.kr_wire.specs.declared.stop.WireError.{WireError}
 use Rattle.kr_wire.specs.declared.stop.WireError.TheVariants.{Refused, NoMemory}
 use Rattle.kr_wire.specs.Valid.{IsPacket}
@@ -38,7 +38,7 @@ ReadsAt {item = item} text Fits bytes at (Err (Refused place)) =
 ReadsAt text Fits bytes at (Err NoMemory) = Unit {0}
 
 -- bytes whose field is broken are refused
-abbrev pub Refuses : Stop → WireError → Type 0
+abbrev pub Refuses : FieldError → WireError → Type 0
 Refuses (stop.Broken left) (Refused at) = Unit {0}
 Refuses (stop.Broken left) NoMemory = ⊥
 Refuses stop.NoMemory error = error ≡ NoMemory

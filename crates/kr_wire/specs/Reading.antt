@@ -1,6 +1,7 @@
 -- Reading a packet from the left. A reader answers a value and the bytes after it. Else it answers how many bytes
 -- are left from the first field on that is cut short or holds a value that is not allowed.
-use Rattle.std.specs.Prelude.{◌≡◌, ℕ, zero, suc, ◌+◌, ◌==◌, nat_lt, if◌then◌else◌, List, [], ◌∷◌, length, take, drop, Option, None, Some, Result, Ok, Err}
+use Rattle.std.specs.Prelude.{◌≡◌, ℕ, zero, suc, ◌+◌, ◌==◌, nat_lt, if◌then◌else◌, List, [], ◌∷◌, length, take, drop, Option, None, Some}
+use Rattle.std.specs.Prelude.{Result, Ok, Err}
 use Rattle.std.specs.Int.{Width, w32, w64, byte_len, from_be_bytes}
 use Rattle.kr_order.specs.declared.ids.EventId.{EventId}
 use Rattle.kr_order.specs.declared.ids.ServerId.{ServerId}
@@ -22,8 +23,8 @@ use Rattle.kr_order.specs.declared.message.Node.TheVariants.{Manager, Client, Se
 use Rattle.kr_order.specs.declared.message.Message.{Message}
 use Rattle.kr_order.specs.declared.message.Message.TheVariants.{Request, Append, Ack, NewView, Replied, Ask, Answered, Refer, Joined}
 use Rattle.kr_order.specs.declared.message.Packet.{Packet}
-use Rattle.kr_wire.specs.declared.stop.Stop.{Stop}
-use Rattle.kr_wire.specs.declared.stop.Stop.TheVariants as stop
+use Rattle.kr_wire.specs.declared.stop.FieldError.{FieldError}
+use Rattle.kr_wire.specs.declared.stop.FieldError.TheVariants as stop
 use Rattle.kr_wire.specs.declared.party.Party.{Party}
 use Rattle.kr_wire.specs.declared.party.Party.TheVariants as party
 use Rattle.kr_wire.specs.declared.party.MessageKind.{MessageKind}
@@ -40,11 +41,11 @@ abbrev pub ◌>>=◌ : {item other : Type 0} → Result item ℕ → (item → R
 (Err left) >>= f = Err left
 
 -- what the code answers is what the reader answers, unless memory ran out
-abbrev pub Fails : {item : Type 0} → Stop → Result item ℕ → Type 0
+abbrev pub Fails : {item : Type 0} → FieldError → Result item ℕ → Type 0
 Fails stop.NoMemory read = Unit {0}
 Fails (stop.Broken left) read = read ≡ Err left
 
-abbrev pub Gives : {item other : Type 0} → (item → other) → Result item Stop → Result other ℕ → Type 0
+abbrev pub Gives : {item other : Type 0} → (item → other) → Result item FieldError → Result other ℕ → Type 0
 Gives view (Ok x) read = read ≡ Ok (view x)
 Gives view (Err e) read = Fails e read
 

@@ -6,7 +6,7 @@ ghost use Rattle.kr_wire.specs.Spelling.{kind_number, command_bytes};
 
 use crate::fields::{byte_in, id_above, positive, put_1, put_4, put_8};
 use crate::items::{Spelt, capped_at, put_counted};
-use crate::stop::Stop;
+use crate::stop::FieldError;
 use kr_order::{ClientId, Command, Entry, EventId, Kind, NoMemory, Pair};
 use std::alloc::Global;
 
@@ -39,7 +39,7 @@ impl Spelt for Pair {
     ghost reading = { pair_at };
 
     #[tactic(auto, unfolding(crate::specs::Reading::pair_at))]
-    fn read(_alloc: Global, bytes: &[u8]) -> Result<(Self, &[u8]), Stop> {
+    fn read(_alloc: Global, bytes: &[u8]) -> Result<(Self, &[u8]), FieldError> {
         let (kind, rest) = byte_in(1, 2, bytes)?;
         let (first, rest) = positive(rest)?;
         let (second, rest) = positive(rest)?;
@@ -67,7 +67,7 @@ impl Spelt for (EventId, EventId) {
     ghost reading = { asked_at };
 
     #[tactic(auto, unfolding(crate::specs::Reading::asked_at))]
-    fn read(_alloc: Global, bytes: &[u8]) -> Result<(Self, &[u8]), Stop> {
+    fn read(_alloc: Global, bytes: &[u8]) -> Result<(Self, &[u8]), FieldError> {
         let (first, rest) = positive(bytes)?;
         let (second, rest) = positive(rest)?;
         Ok(((EventId(first), EventId(second)), rest))
@@ -81,7 +81,7 @@ impl Spelt for (EventId, EventId) {
 
 // The command that follows its number, from 1 to 4, and what follows it.
 #[tactic(auto, unfolding(crate::specs::Reading::command_by))]
-fn command_by(alloc: Global, number: u8, bytes: &[u8]) -> Result<(Command, &[u8]), Stop>
+fn command_by(alloc: Global, number: u8, bytes: &[u8]) -> Result<(Command, &[u8]), FieldError>
     ensures { Gives (λ read. (read.0, read.1.now)) result (command_by number bytes.now) }
 {
     match number {
@@ -103,7 +103,7 @@ fn command_by(alloc: Global, number: u8, bytes: &[u8]) -> Result<(Command, &[u8]
 
 // The command that the front of the bytes spells, and what follows.
 #[tactic(auto, unfolding(crate::specs::Reading::command_at))]
-pub(crate) fn command_at(alloc: Global, bytes: &[u8]) -> Result<(Command, &[u8]), Stop>
+pub(crate) fn command_at(alloc: Global, bytes: &[u8]) -> Result<(Command, &[u8]), FieldError>
     ensures { Gives (λ read. (read.0, read.1.now)) result (command_at bytes.now) }
 {
     let (number, rest) = byte_in(1, 4, bytes)?;
@@ -140,7 +140,7 @@ impl Spelt for Entry {
     ghost reading = { entry_at };
 
     #[tactic(auto, unfolding(crate::specs::Reading::entry_at))]
-    fn read(alloc: Global, bytes: &[u8]) -> Result<(Self, &[u8]), Stop> {
+    fn read(alloc: Global, bytes: &[u8]) -> Result<(Self, &[u8]), FieldError> {
         let (client, rest) = id_above(0, bytes)?;
         let (seq, rest) = positive(rest)?;
         let (command, rest) = command_at(alloc, rest)?;

@@ -5,17 +5,17 @@ ghost use Rattle.std.specs.Int.{w32, w64};
 ghost use Rattle.kr_wire.specs.Spelling.{in_1, in_4, in_8};
 ghost use Rattle.kr_wire.specs.Reading.{Gives, number_at, above, byte_in};
 
-use crate::stop::Stop;
+use crate::stop::FieldError;
 use byteorder::{BigEndian, ByteOrder};
 use kr_order::NoMemory;
 
 // The number in the first 4 bytes, and what follows.
 #[tactic(auto, unfolding(crate::specs::Reading::number_at))]
-pub(crate) fn u32_at(bytes: &[u8]) -> Result<(u32, &[u8]), Stop>
+pub(crate) fn u32_at(bytes: &[u8]) -> Result<(u32, &[u8]), FieldError>
     ensures { Gives (λ read. (read.0, read.1.now)) result (number_at w32 bytes.now) }
 {
     if bytes.len() < 4 {
-        return Err(Stop::Broken { left: bytes.len() });
+        return Err(FieldError::Broken { left: bytes.len() });
     }
     let (front, rest) = bytes.split_at(4);
     let number = u32::from_be_bytes([front[0], front[1], front[2], front[3]]);
@@ -24,11 +24,11 @@ pub(crate) fn u32_at(bytes: &[u8]) -> Result<(u32, &[u8]), Stop>
 
 // The number in the first 8 bytes, and what follows.
 #[tactic(auto, unfolding(crate::specs::Reading::number_at))]
-pub(crate) fn u64_at(bytes: &[u8]) -> Result<(u64, &[u8]), Stop>
+pub(crate) fn u64_at(bytes: &[u8]) -> Result<(u64, &[u8]), FieldError>
     ensures { Gives (λ read. (read.0, read.1.now)) result (number_at w64 bytes.now) }
 {
     if bytes.len() < 8 {
-        return Err(Stop::Broken { left: bytes.len() });
+        return Err(FieldError::Broken { left: bytes.len() });
     }
     let (front, rest) = bytes.split_at(8);
     let number = u64::from_be_bytes([
@@ -39,42 +39,42 @@ pub(crate) fn u64_at(bytes: &[u8]) -> Result<(u64, &[u8]), Stop>
 
 // The same of 4 bytes, where the number is greater than `low`.
 #[tactic(auto, unfolding(crate::specs::Reading::above))]
-pub(crate) fn id_above(low: u32, bytes: &[u8]) -> Result<(u32, &[u8]), Stop>
+pub(crate) fn id_above(low: u32, bytes: &[u8]) -> Result<(u32, &[u8]), FieldError>
     ensures { Gives (λ read. (read.0, read.1.now)) result (above w32 low bytes.now) }
 {
     let (number, rest) = u32_at(bytes)?;
     if low < number {
         Ok((number, rest))
     } else {
-        Err(Stop::Broken { left: bytes.len() })
+        Err(FieldError::Broken { left: bytes.len() })
     }
 }
 
 // The same of 8 bytes, where the number is not 0.
 #[tactic(auto, unfolding(crate::specs::Reading::above))]
-pub(crate) fn positive(bytes: &[u8]) -> Result<(u64, &[u8]), Stop>
+pub(crate) fn positive(bytes: &[u8]) -> Result<(u64, &[u8]), FieldError>
     ensures { Gives (λ read. (read.0, read.1.now)) result (above w64 0 bytes.now) }
 {
     let (number, rest) = u64_at(bytes)?;
     if 0 < number {
         Ok((number, rest))
     } else {
-        Err(Stop::Broken { left: bytes.len() })
+        Err(FieldError::Broken { left: bytes.len() })
     }
 }
 
 // The first byte, where it is in this range, and what follows.
 #[tactic(auto, unfolding(crate::specs::Reading::byte_in))]
-pub(crate) fn byte_in(low: u8, high: u8, bytes: &[u8]) -> Result<(u8, &[u8]), Stop>
+pub(crate) fn byte_in(low: u8, high: u8, bytes: &[u8]) -> Result<(u8, &[u8]), FieldError>
     ensures { Gives (λ read. (read.0, read.1.now)) result (byte_in low high bytes.now) }
 {
     match bytes {
-        [] => Err(Stop::Broken { left: 0 }),
+        [] => Err(FieldError::Broken { left: 0 }),
         [byte, rest @ ..] => {
             if *byte < low {
-                Err(Stop::Broken { left: bytes.len() })
+                Err(FieldError::Broken { left: bytes.len() })
             } else if high < *byte {
-                Err(Stop::Broken { left: bytes.len() })
+                Err(FieldError::Broken { left: bytes.len() })
             } else {
                 Ok((*byte, rest))
             }

@@ -5,7 +5,7 @@ ghost use Rattle.kr_wire.specs.Reading.{Gives, Read, items_at, counted_at};
 ghost use Rattle.kr_wire.specs.Spelling.{counted};
 
 use crate::fields::{byte_in, put_1};
-use crate::stop::Stop;
+use crate::stop::FieldError;
 use kr_order::{Capped, Listed, NoMemory, PushStop};
 use std::alloc::Global;
 
@@ -16,7 +16,7 @@ pub(crate) trait Spelt: Sized + Drop {
     ghost reading: { List ℕ → Read Self };
 
     // The value that the front of the bytes spells, and what follows.
-    fn read(alloc: Global, bytes: &[u8]) -> Result<(Self, &[u8]), Stop>
+    fn read(alloc: Global, bytes: &[u8]) -> Result<(Self, &[u8]), FieldError>
         ensures { Gives (λ read. (read.0, read.1.now)) result (reading bytes.now) };
 
     // Puts the spelling behind what is there.
@@ -25,7 +25,7 @@ pub(crate) trait Spelt: Sized + Drop {
 }
 
 // So many items, and what follows.
-fn items_at<X: Spelt>(alloc: Global, count: u8, bytes: &[u8]) -> Result<(Vec<X>, &[u8]), Stop>
+fn items_at<X: Spelt>(alloc: Global, count: u8, bytes: &[u8]) -> Result<(Vec<X>, &[u8]), FieldError>
     ensures { Gives (λ read. (read.0.items, read.1.now)) result (items_at X.reading count bytes.now) }
 {
     let mut items = Vec::new(alloc);
@@ -43,7 +43,7 @@ fn capped_items_at<X: Spelt>(
     alloc: Global,
     count: u8,
     bytes: &[u8],
-) -> Result<(Capped<X>, &[u8]), Stop>
+) -> Result<(Capped<X>, &[u8]), FieldError>
     requires { count ≤ 32 }
     ensures { Gives (λ read. (read.0, read.1.now)) result (items_at X.reading count bytes.now) }
 {
@@ -54,7 +54,7 @@ fn capped_items_at<X: Spelt>(
         match items.push(item) {
             Ok(()) => rest = after,
             Err(PushStop::Full) => unreachable!(),
-            Err(PushStop::NoMemory) => return Err(Stop::NoMemory),
+            Err(PushStop::NoMemory) => return Err(FieldError::NoMemory),
         }
     }
     Ok((items, rest))
@@ -66,7 +66,7 @@ pub(crate) fn listed_at<X: Spelt>(
     low: u8,
     high: u8,
     bytes: &[u8],
-) -> Result<(Listed<X>, &[u8]), Stop>
+) -> Result<(Listed<X>, &[u8]), FieldError>
     ensures { Gives (λ read. (read.0, read.1.now)) result (counted_at low high X.reading bytes.now) }
 {
     let (count, rest) = byte_in(low, high, bytes)?;
@@ -79,7 +79,7 @@ pub(crate) fn capped_at<X: Spelt>(
     alloc: Global,
     low: u8,
     bytes: &[u8],
-) -> Result<(Capped<X>, &[u8]), Stop>
+) -> Result<(Capped<X>, &[u8]), FieldError>
     ensures { Gives (λ read. (read.0, read.1.now)) result (counted_at low 32 X.reading bytes.now) }
 {
     let (count, rest) = byte_in(low, 32, bytes)?;

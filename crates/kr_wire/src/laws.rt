@@ -1,6 +1,7 @@
 //! Laws of spellings. Each function does nothing: its contract is the law, whose proof is checked with it.
 
-ghost use Rattle.kr_wire.specs.Laws.{ASpellingIsOfOneValue, NoSpellingBeginsAnother, SpellingsAreAsLongAsCounted, TheFirstPacketsAreSpeltSo};
+ghost use Rattle.kr_wire.specs.Laws.{ASpellingIsOfOneValue, NoSpellingBeginsAnother, SpellingsAreAsLongAsCounted};
+ghost use Rattle.kr_wire.specs.Laws.{TheFirstPacketsAreSpeltSo};
 
 /// Bytes begin with the spelling of at most one packet, of one entry and of one reply, and it ends at one place.
 #[tactic(auto, using(crate::proofs::LawLemmas::values_are_spelt_once))]

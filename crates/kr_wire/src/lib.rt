@@ -14,8 +14,6 @@ mod packets;
 mod party;
 mod replies;
 mod stop;
-#[cfg(test)]
-mod tests;
 mod views;
 
 pub use packets::{addressee, decode, encode, entry_at, put_entry, put_reply, reply_at};

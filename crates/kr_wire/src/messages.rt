@@ -10,14 +10,14 @@ use crate::fields::{byte_in, id_above, positive, put_1, put_4, put_8, u64_at};
 use crate::items::{capped_at, listed_at, put_counted};
 use crate::party::MessageKind;
 use crate::replies::{add_reply, reply_from};
-use crate::stop::Stop;
+use crate::stop::FieldError;
 use crate::views::{put_view, view_at};
 use kr_order::{Message, NoMemory, Placed, ServerId, Told, View};
 use std::alloc::Global;
 
 // The number of a query and of its part, and what follows.
 #[tactic(auto, unfolding(crate::specs::Reading::part_at))]
-fn part_at(bytes: &[u8]) -> Result<((u64, u8), &[u8]), Stop>
+fn part_at(bytes: &[u8]) -> Result<((u64, u8), &[u8]), FieldError>
     ensures { Gives (λ read. (read.0, read.1.now)) result (part_at bytes.now) }
 {
     let (q, rest) = positive(bytes)?;
@@ -31,7 +31,7 @@ pub(crate) fn message_at(
     alloc: Global,
     kind: MessageKind,
     bytes: &[u8],
-) -> Result<(Message, &[u8]), Stop>
+) -> Result<(Message, &[u8]), FieldError>
     ensures { Gives (λ read. (read.0, read.1.now)) result (message_at kind bytes.now) }
 {
     match kind {
@@ -55,7 +55,7 @@ pub(crate) fn message_at(
 }
 
 #[tactic(auto, unfolding(crate::specs::Reading::message_at))]
-fn request_at(alloc: Global, bytes: &[u8]) -> Result<(Message, &[u8]), Stop>
+fn request_at(alloc: Global, bytes: &[u8]) -> Result<(Message, &[u8]), FieldError>
     ensures { Gives (λ read. (read.0, read.1.now)) result (message_at MessageKind.Request bytes.now) }
 {
     let (seq, rest) = positive(bytes)?;
@@ -64,7 +64,7 @@ fn request_at(alloc: Global, bytes: &[u8]) -> Result<(Message, &[u8]), Stop>
 }
 
 #[tactic(auto, unfolding(crate::specs::Reading::message_at))]
-fn append_at(alloc: Global, bytes: &[u8]) -> Result<(Message, &[u8]), Stop>
+fn append_at(alloc: Global, bytes: &[u8]) -> Result<(Message, &[u8]), FieldError>
     ensures { Gives (λ read. (read.0, read.1.now)) result (message_at MessageKind.Append bytes.now) }
 {
     let (first, rest) = positive(bytes)?;
@@ -73,7 +73,7 @@ fn append_at(alloc: Global, bytes: &[u8]) -> Result<(Message, &[u8]), Stop>
 }
 
 #[tactic(auto, unfolding(crate::specs::Reading::message_at))]
-fn ack_at(bytes: &[u8]) -> Result<(Message, &[u8]), Stop>
+fn ack_at(bytes: &[u8]) -> Result<(Message, &[u8]), FieldError>
     ensures { Gives (λ read. (read.0, read.1.now)) result (message_at MessageKind.Ack bytes.now) }
 {
     let (done, rest) = u64_at(bytes)?;
@@ -82,7 +82,7 @@ fn ack_at(bytes: &[u8]) -> Result<(Message, &[u8]), Stop>
 }
 
 #[tactic(auto, unfolding(crate::specs::Reading::message_at))]
-fn ask_at(alloc: Global, bytes: &[u8]) -> Result<(Message, &[u8]), Stop>
+fn ask_at(alloc: Global, bytes: &[u8]) -> Result<(Message, &[u8]), FieldError>
     ensures { Gives (λ read. (read.0, read.1.now)) result (message_at MessageKind.Ask bytes.now) }
 {
     let ((q, part), rest) = part_at(bytes)?;
@@ -91,7 +91,7 @@ fn ask_at(alloc: Global, bytes: &[u8]) -> Result<(Message, &[u8]), Stop>
 }
 
 #[tactic(auto, unfolding(crate::specs::Reading::message_at))]
-fn replied_at(alloc: Global, bytes: &[u8]) -> Result<(Message, &[u8]), Stop>
+fn replied_at(alloc: Global, bytes: &[u8]) -> Result<(Message, &[u8]), FieldError>
     ensures { Gives (λ read. (read.0, read.1.now)) result (message_at MessageKind.Replied bytes.now) }
 {
     let (seq, rest) = positive(bytes)?;
@@ -102,7 +102,7 @@ fn replied_at(alloc: Global, bytes: &[u8]) -> Result<(Message, &[u8]), Stop>
 }
 
 #[tactic(auto, unfolding(crate::specs::Reading::message_at))]
-fn answered_at(alloc: Global, bytes: &[u8]) -> Result<(Message, &[u8]), Stop>
+fn answered_at(alloc: Global, bytes: &[u8]) -> Result<(Message, &[u8]), FieldError>
     ensures { Gives (λ read. (read.0, read.1.now)) result (message_at MessageKind.Answered bytes.now) }
 {
     let ((q, part), rest) = part_at(bytes)?;
@@ -113,7 +113,7 @@ fn answered_at(alloc: Global, bytes: &[u8]) -> Result<(Message, &[u8]), Stop>
 }
 
 #[tactic(auto, unfolding(crate::specs::Reading::message_at))]
-fn refer_at(alloc: Global, bytes: &[u8]) -> Result<(Message, &[u8]), Stop>
+fn refer_at(alloc: Global, bytes: &[u8]) -> Result<(Message, &[u8]), FieldError>
     ensures { Gives (λ read. (read.0, read.1.now)) result (message_at MessageKind.Refer bytes.now) }
 {
     let ((q, part), rest) = part_at(bytes)?;

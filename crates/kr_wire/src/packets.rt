@@ -11,7 +11,7 @@ use crate::items::Spelt;
 use crate::messages::{message_at, message_number, put_message};
 use crate::party::{MessageKind, kind_by};
 use crate::replies::{add_reply, reply_from};
-use crate::stop::{Stop, WireError};
+use crate::stop::{FieldError, WireError};
 use crate::views::{node_at, node_number, node_of};
 use kr_order::{Entry, Message, NoMemory, Node, Packet, Reply};
 use std::alloc::Global;
@@ -104,14 +104,14 @@ pub fn put_reply(out: &mut Vec<u8>, reply: &Reply) -> Result<(), NoMemory>
 }
 
 // What is answered of bytes that are not read.
-fn refused(bytes: &[u8], stop: Stop) -> WireError
+fn refused(bytes: &[u8], stop: FieldError) -> WireError
     ensures { Refuses stop result }
 {
     match stop {
-        Stop::Broken { left } => WireError::Refused {
+        FieldError::Broken { left } => WireError::Refused {
             at: bytes.len().saturating_sub(left),
         },
-        Stop::NoMemory => WireError::NoMemory,
+        FieldError::NoMemory => WireError::NoMemory,
     }
 }
 
@@ -121,7 +121,7 @@ fn packet_by(
     alloc: Global,
     kind: MessageKind,
     bytes: &[u8],
-) -> Result<(((Node, Node), Message), &[u8]), Stop>
+) -> Result<(((Node, Node), Message), &[u8]), FieldError>
     ensures { Gives (λ read. (read.0, read.1.now)) result (packet_by kind bytes.now) }
 {
     let (from, rest) = node_at(kind.sender(), bytes)?;
@@ -132,7 +132,7 @@ fn packet_by(
 
 // The packet that the front of the bytes spells, and what follows.
 #[tactic(auto, unfolding(crate::specs::Reading::packet_at, crate::specs::Reading::message_kind_at))]
-fn packet_at(alloc: Global, bytes: &[u8]) -> Result<(Packet, &[u8]), Stop>
+fn packet_at(alloc: Global, bytes: &[u8]) -> Result<(Packet, &[u8]), FieldError>
     ensures { Gives (λ read. (read.0, read.1.now)) result (packet_at bytes.now) }
 {
     let (_, rest) = byte_in(1, 1, bytes)?;
@@ -143,13 +143,13 @@ fn packet_at(alloc: Global, bytes: &[u8]) -> Result<(Packet, &[u8]), Stop>
 
 // The packet that all of the bytes spell.
 #[tactic(auto, unfolding(crate::specs::Reading::packet_in))]
-fn packet_in(alloc: Global, bytes: &[u8]) -> Result<Packet, Stop>
+fn packet_in(alloc: Global, bytes: &[u8]) -> Result<Packet, FieldError>
     ensures { Gives (λ packet. packet) result (packet_in bytes.now) }
 {
     let (packet, rest) = packet_at(alloc, bytes)?;
     if rest.is_empty() {
         Ok(packet)
     } else {
-        Err(Stop::Broken { left: rest.len() })
+        Err(FieldError::Broken { left: rest.len() })
     }
 }

@@ -7,7 +7,7 @@ ghost use Rattle.kr_wire.specs.Spelling.{outcome_number, answer_number, reply_by
 
 use crate::fields::{byte_in, positive, put_1, put_4, put_8, u32_at, u64_at};
 use crate::items::{Spelt, listed_at, put_counted};
-use crate::stop::Stop;
+use crate::stop::FieldError;
 use kr_order::{Answer, EventId, NoMemory, Outcome, Reply};
 use std::alloc::Global;
 
@@ -42,7 +42,7 @@ impl Spelt for Outcome {
     ghost reading = { outcome_at };
 
     #[tactic(auto, unfolding(crate::specs::Reading::outcome_at))]
-    fn read(_alloc: Global, bytes: &[u8]) -> Result<(Self, &[u8]), Stop> {
+    fn read(_alloc: Global, bytes: &[u8]) -> Result<(Self, &[u8]), FieldError> {
         let (number, rest) = byte_in(1, 3, bytes)?;
         Ok((outcome_of(number), rest))
     }
@@ -89,7 +89,7 @@ impl Spelt for Answer {
     ghost reading = { answer_at };
 
     #[tactic(auto, unfolding(crate::specs::Reading::answer_at))]
-    fn read(_alloc: Global, bytes: &[u8]) -> Result<(Self, &[u8]), Stop> {
+    fn read(_alloc: Global, bytes: &[u8]) -> Result<(Self, &[u8]), FieldError> {
         let (number, rest) = byte_in(1, 6, bytes)?;
         Ok((answer_of(number), rest))
     }
@@ -101,7 +101,7 @@ impl Spelt for Answer {
 
 // The reply that follows its number, from 1 to 5, and what follows it.
 #[tactic(auto, unfolding(crate::specs::Reading::reply_by))]
-fn reply_by(alloc: Global, number: u8, bytes: &[u8]) -> Result<(Reply, &[u8]), Stop>
+fn reply_by(alloc: Global, number: u8, bytes: &[u8]) -> Result<(Reply, &[u8]), FieldError>
     ensures { Gives (λ read. (read.0, read.1.now)) result (reply_by number bytes.now) }
 {
     match number {
@@ -130,7 +130,7 @@ fn reply_by(alloc: Global, number: u8, bytes: &[u8]) -> Result<(Reply, &[u8]), S
 
 // The reply that the front of the bytes spells, and what follows.
 #[tactic(auto, unfolding(crate::specs::Reading::reply_at))]
-pub(crate) fn reply_from(alloc: Global, bytes: &[u8]) -> Result<(Reply, &[u8]), Stop>
+pub(crate) fn reply_from(alloc: Global, bytes: &[u8]) -> Result<(Reply, &[u8]), FieldError>
     ensures { Gives (λ read. (read.0, read.1.now)) result (reply_at bytes.now) }
 {
     let (number, rest) = byte_in(1, 5, bytes)?;

@@ -1,7 +1,7 @@
 //! Why bytes are not read.
 
 ghost use Rattle.std.specs.Prelude.{◌≡◌};
-ghost use Rattle.kr_wire.specs.declared.stop.Stop.TheVariants.{NoMemory as OutOfMemory};
+ghost use Rattle.kr_wire.specs.declared.stop.FieldError.TheVariants.{NoMemory as OutOfMemory};
 
 use kr_order::NoMemory;
 use std::alloc::{AllocError, AllocFailed};
@@ -20,32 +20,32 @@ pub enum WireError {
 
 /// Why a field is not read.
 #[derive(Clone, Copy, Debug, PartialEq, Eq)]
-pub enum Stop {
+pub enum FieldError {
     /// So many bytes are left from the first field on that is cut short or holds a value that is not allowed.
     Broken { left: usize },
     NoMemory,
 }
 
-impl From<NoMemory> for Stop {
+impl From<NoMemory> for FieldError {
     ghost from_gives = { λ _ stop. stop ≡ OutOfMemory };
 
     fn from(_: NoMemory) -> Self {
-        Stop::NoMemory
+        FieldError::NoMemory
     }
 }
 
-impl From<AllocError> for Stop {
+impl From<AllocError> for FieldError {
     ghost from_gives = { λ _ stop. stop ≡ OutOfMemory };
 
     fn from(_: AllocError) -> Self {
-        Stop::NoMemory
+        FieldError::NoMemory
     }
 }
 
-impl<T: Drop> From<AllocFailed<T>> for Stop {
+impl<T: Drop> From<AllocFailed<T>> for FieldError {
     ghost from_gives = { λ _ stop. stop ≡ OutOfMemory };
 
     fn from(_: AllocFailed<T>) -> Self {
-        Stop::NoMemory
+        FieldError::NoMemory
     }
 }

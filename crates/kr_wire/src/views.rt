@@ -8,7 +8,7 @@ ghost use Rattle.kr_wire.specs.Spelling.{joiner_number, node_number, view_bytes}
 use crate::fields::{byte_in, id_above, positive, put_4, put_8, u32_at};
 use crate::items::{Spelt, put_counted};
 use crate::party::Party;
-use crate::stop::Stop;
+use crate::stop::FieldError;
 use kr_order::{ClientId, NoMemory, Node, ServerId, Servers, View};
 use std::alloc::Global;
 
@@ -21,7 +21,7 @@ impl Spelt for ServerId {
 
     ghost reading = { made server_of (above w32 0) };
 
-    fn read(_alloc: Global, bytes: &[u8]) -> Result<(Self, &[u8]), Stop> {
+    fn read(_alloc: Global, bytes: &[u8]) -> Result<(Self, &[u8]), FieldError> {
         let (id, rest) = id_above(0, bytes)?;
         Ok((ServerId(id), rest))
     }
@@ -32,7 +32,11 @@ impl Spelt for ServerId {
 }
 
 // So many ids, each greater than the one before it, the last of them, and what follows.
-fn rising_at(alloc: Global, count: u8, bytes: &[u8]) -> Result<(Vec<ServerId>, u32, &[u8]), Stop>
+fn rising_at(
+    alloc: Global,
+    count: u8,
+    bytes: &[u8],
+) -> Result<(Vec<ServerId>, u32, &[u8]), FieldError>
     ensures value { Gives (λ read. (read.0.items, read.2.now)) result (rising_at count 0 bytes.now) }
     ensures last { IfOk result (λ read. read.1 ≡ last_id 0 read.0.items) }
 {
@@ -50,7 +54,7 @@ fn rising_at(alloc: Global, count: u8, bytes: &[u8]) -> Result<(Vec<ServerId>, u
 
 // The chain that the front of the bytes spells, its last id, and what follows.
 #[tactic(auto, unfolding(crate::specs::Reading::chain_at))]
-fn chain_at(alloc: Global, bytes: &[u8]) -> Result<(Servers, u32, &[u8]), Stop>
+fn chain_at(alloc: Global, bytes: &[u8]) -> Result<(Servers, u32, &[u8]), FieldError>
     ensures value { Gives (λ read. (read.0, read.2.now)) result (chain_at bytes.now) }
     ensures last { IfOk result (λ read. read.1 ≡ last_id 0 read.0) }
 {
@@ -61,7 +65,7 @@ fn chain_at(alloc: Global, bytes: &[u8]) -> Result<(Servers, u32, &[u8]), Stop>
 
 // The server that is added behind a chain with this last id, where there is one, and what follows.
 #[tactic(auto, unfolding(crate::specs::Reading::joiner_at))]
-fn joiner_at(last: u32, bytes: &[u8]) -> Result<(Option<ServerId>, &[u8]), Stop>
+fn joiner_at(last: u32, bytes: &[u8]) -> Result<(Option<ServerId>, &[u8]), FieldError>
     ensures { Gives (λ read. (read.0, read.1.now)) result (joiner_at last bytes.now) }
 {
     let (id, rest) = u32_at(bytes)?;
@@ -70,13 +74,13 @@ fn joiner_at(last: u32, bytes: &[u8]) -> Result<(Option<ServerId>, &[u8]), Stop>
     } else if last < id {
         Ok((Some(ServerId(id)), rest))
     } else {
-        Err(Stop::Broken { left: bytes.len() })
+        Err(FieldError::Broken { left: bytes.len() })
     }
 }
 
 // The view that the front of the bytes spells, and what follows.
 #[tactic(auto, unfolding(crate::specs::Reading::view_at))]
-pub(crate) fn view_at(alloc: Global, bytes: &[u8]) -> Result<(View, &[u8]), Stop>
+pub(crate) fn view_at(alloc: Global, bytes: &[u8]) -> Result<(View, &[u8]), FieldError>
     ensures { Gives (λ read. (read.0, read.1.now)) result (view_at bytes.now) }
 {
     let (number, rest) = positive(bytes)?;
@@ -112,7 +116,7 @@ pub(crate) fn put_view(out: &mut Vec<u8>, view: &View) -> Result<(), NoMemory>
 
 // The node of this party that the front of the bytes spells, and what follows.
 #[tactic(auto, unfolding(crate::specs::Reading::node_at))]
-pub(crate) fn node_at(party: Party, bytes: &[u8]) -> Result<(Node, &[u8]), Stop>
+pub(crate) fn node_at(party: Party, bytes: &[u8]) -> Result<(Node, &[u8]), FieldError>
     ensures { Gives (λ read. (read.0, read.1.now)) result (node_at party bytes.now) }
 {
     match party {
@@ -121,7 +125,7 @@ pub(crate) fn node_at(party: Party, bytes: &[u8]) -> Result<(Node, &[u8]), Stop>
             if id == 0 {
                 Ok((Node::Manager, rest))
             } else {
-                Err(Stop::Broken { left: bytes.len() })
+                Err(FieldError::Broken { left: bytes.len() })
             }
         }
         Party::Client => {

@@ -10,9 +10,9 @@ use Rattle.script_lang.specs.Script.{Parses}
 use Rattle.script_lang.specs.Laws.{BadLinesAreInNoScript}
 use Rattle.kronos.specs.declared.exit.Exit.{Exit}
 use Rattle.kronos.specs.declared.exit.Exit.TheVariants.{Done, Usage, BadLine, TooLong, ReadFault, WriteFault, NoMemory}
-use Rattle.kronos.specs.declared.run.Stop.{Stop}
-use Rattle.kronos.specs.declared.run.Stop.TheVariants.{Write, Memory}
-use Rattle.kronos.specs.Ends.{Outside, AskForScript, AskForLoad, HasRead, Ends, EndsOnBytes, IsLoadServed, FailedToWrite, IsRefusalOf, HasBadLine, IsTooLong, IsServed, input_limit}
+use Rattle.kronos.specs.declared.run.RunError.{RunError}
+use Rattle.kronos.specs.declared.run.RunError.TheVariants.{Write, Memory}
+use Rattle.kronos.specs.Ends.{Outside, AskForScript, AskForLoad, HasRead, Ends, EndsOnBytes, IsLoadServed, FailedToWrite, IsRunOf, IsRefusalOf, HasBadLine, IsTooLong, IsServed, input_limit}
 use Rattle.kronos.specs.Runs.{IsWritten, exit_after}
 
 some_of_all : (left left' : Option (List ℕ)) (bytes : List ℕ) → GaveAll input_limit left left' bytes → GaveSome input_limit left left'
@@ -40,8 +40,16 @@ ends_on_bytes NoMemory words before after bytes read lacks =
       ];
     })
 
--- what a written text says of the end: the refusal of a bad line
-pub refusal_ends : {U : Type 0} (result : Result U Stop) (n : ℕ) (bytes text : List ℕ) (held held' : Option (List ℕ)) (faults faults' : ℕ) → IsRefusalOf bytes n text → IsWritten text result held held' faults faults' → EndsOnBytes (exit_after result (BadLine n)) bytes held held' faults faults'
+-- what a written text says of the end: the run of a script
+pub run_ends : {U : Type 0} (result : Result U RunError) (bytes text : List ℕ) (held held' : Option (List ℕ)) (faults faults' : ℕ)
+    → IsRunOf bytes text → IsWritten text result held held' faults faults'
+    → EndsOnBytes (exit_after result Done) bytes held held' faults faults'
+run_ends {U} (Ok done) bytes text held held' faults faults' run wrote = (text, run, wrote.0, wrote.1)
+run_ends {U} (Err Write) bytes text held held' faults faults' run took = (text, inl run, took)
+run_ends {U} (Err Memory) bytes text held held' faults faults' run took = (took.1, inr (text, inl run, took.0))
+
+-- the refusal of a bad line
+pub refusal_ends : {U : Type 0} (result : Result U RunError) (n : ℕ) (bytes text : List ℕ) (held held' : Option (List ℕ)) (faults faults' : ℕ) → IsRefusalOf bytes n text → IsWritten text result held held' faults faults' → EndsOnBytes (exit_after result (BadLine n)) bytes held held' faults faults'
 refusal_ends {U} (Ok done) n bytes text held held' faults faults' refused wrote = (text, refused, wrote.0, wrote.1)
 refusal_ends {U} (Err Write) n bytes text held held' faults faults' refused took = (text, inr (n, refused), took)
 refusal_ends {U} (Err Memory) n bytes text held held' faults faults' refused took =

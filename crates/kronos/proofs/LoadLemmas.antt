@@ -18,8 +18,8 @@ use Rattle.kr_world.specs.Run.{Turn, run_from, run_of}
 use Rattle.kr_world.specs.Round.{IsStep, plain_events}
 use Rattle.kr_world.specs.Counts.{befores_of, befores_in, world_after, BeforesAreFew}
 use Rattle.kr_world.specs.Sound.{HaveBegun}
-use Rattle.kr_world.proofs.CountLemmas.{queries_counted, none_begun}
-use Rattle.kr_world.proofs.RoundLemmas.{plain_alone, all_alone}
+use Rattle.kr_world.proofs.steps.CountLemmas.{queries_counted, none_begun}
+use Rattle.kr_world.proofs.rounds.RoundLemmas.{plain_alone, all_alone}
 use Rattle.cluster_sim.specs.ClusterStanding.{ClusterStanding}
 use Rattle.cluster_sim.specs.Steps.{after_step, after_steps}
 use Rattle.cluster_sim.proofs.PartsLemmas.{history_of-done_of}

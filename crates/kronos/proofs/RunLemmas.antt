@@ -17,15 +17,15 @@ use Rattle.kr_world.specs.Sound.{HaveBegun}
 use Rattle.kr_world.specs.Lines.{step_lines, done_lines, end_lines}
 use Rattle.kr_world.specs.Round.{plain_events, after_line, steps_of}
 use Rattle.kr_world.specs.Run.{Turn, run_from, run_of, lines_of, text_from, text_of}
-use Rattle.kr_world.proofs.RoundLemmas.{text_of-line}
-use Rattle.kr_world.proofs.RoundCountLemmas.{line_counted}
+use Rattle.kr_world.proofs.rounds.RoundLemmas.{text_of-line}
+use Rattle.kr_world.proofs.rounds.RoundCountLemmas.{line_counted}
 use Rattle.cluster_sim.specs.ClusterStanding.{ClusterStanding}
 use Rattle.cluster_sim.specs.Steps.{DoesSteps}
 use Rattle.cluster_sim.proofs.ClusterLemmas.{after_steps-world}
 use Rattle.kronos.specs.Ends.{TookFront}
 use Rattle.kronos.specs.Runs.{text_on, DoesTurn, Turns, RanEvents, RunsEvents, IsWritten}
-use Rattle.kronos.specs.declared.run.Stop.{Stop}
-use Rattle.kronos.specs.declared.run.Stop.TheVariants.{Write, Memory}
+use Rattle.kronos.specs.declared.run.RunError.{RunError}
+use Rattle.kronos.specs.declared.run.RunError.TheVariants.{Write, Memory}
 
 -- the text in two parts: what was written and a front of the next piece, and what is to come
 cut_text : (written piece rest text : List ℕ) (n : ℕ) → text ≡ written ++ piece ++ rest → text ≡ (written ++ take n piece) ++ (drop n piece ++ rest)
@@ -168,7 +168,7 @@ memory_further first events i old gathered held mid held' faults midway faults' 
     (front_written so_far.written (gathered ++ rest) (text_on first.world events) held held' so_far.rest more (subst (λ h. Appends held h so_far.written) (sym kept) so_far.taken), calm ∙ so_far.calm)
 
 -- a text behind one that was written
-pub went_on : {U : Type 0} (result : Result U Stop) (first rest : List ℕ) (held mid held' : Option (List ℕ)) (faults midway faults' : ℕ) → Appends held mid first → midway ≡ faults → IsWritten rest result mid held' midway faults' → IsWritten (first ++ rest) result held held' faults faults'
+pub went_on : {U : Type 0} (result : Result U RunError) (first rest : List ℕ) (held mid held' : Option (List ℕ)) (faults midway faults' : ℕ) → Appends held mid first → midway ≡ faults → IsWritten rest result mid held' midway faults' → IsWritten (first ++ rest) result held held' faults faults'
 went_on {U} (Ok done) first rest held mid held' faults midway faults' before calm wrote =
     (Appends-trans held mid held' first rest before wrote.0, wrote.1 ∙ calm)
 went_on {U} (Err Write) first rest held mid held' faults midway faults' before calm took =
@@ -185,14 +185,14 @@ text_of_first : (script : Script) (first : ClusterStanding) → first ≡ record
 text_of_first script first is = ap (λ (c : ClusterStanding). text_on c.world script.events) is
 
 -- a line was not done, or what is printed of it not written
-pub step_stopped : (U V : Type 0) (stop : Stop) (first : ClusterStanding) (events : List Event) (i : ℕ) (old new : ClusterStanding) (gathered gathered' : List ℕ) (event : Event) (held mid held' : Option (List ℕ)) (faults midway faults' : ℕ) → i < length events → event ≡ get_or events i event → IsPartWay first events i old gathered held mid faults midway → Turns {U = U} old event gathered (Err stop) new gathered' mid held' midway faults' → RunsEvents {U = V} first events (Err stop) new gathered' held held' faults faults'
+pub step_stopped : (U V : Type 0) (stop : RunError) (first : ClusterStanding) (events : List Event) (i : ℕ) (old new : ClusterStanding) (gathered gathered' : List ℕ) (event : Event) (held mid held' : Option (List ℕ)) (faults midway faults' : ℕ) → i < length events → event ≡ get_or events i event → IsPartWay first events i old gathered held mid faults midway → Turns {U = U} old event gathered (Err stop) new gathered' mid held' midway faults' → RunsEvents {U = V} first events (Err stop) new gathered' held held' faults faults'
 step_stopped U V Write first events i old new gathered gathered' event held mid held' faults midway faults' within is so_far took =
     fault_further first events i old gathered event held mid held' faults midway faults' within so_far (subst (λ e. TookBeforeFault (gathered ++ lines_of old.world e) mid held' midway faults') is took)
 step_stopped U V Memory first events i old new gathered gathered' event held mid held' faults midway faults' within is so_far kept =
     memory_further first events i old gathered held mid held' faults midway faults' so_far kept.0 kept.1
 
 -- how the end of a run follows from its steps and its last lines
-pub ended : {U : Type 0} (script : Script) (first last : ClusterStanding) (result : Result U Stop) (gathered : List ℕ) (held mid held' : Option (List ℕ)) (faults midway faults' : ℕ) → first ≡ record { world = first_world script.servers script.clients; failed = false; befores = 0 } → RanEvents first script.events last gathered held mid → midway ≡ faults → IsWritten (gathered ++ end_lines last.world.history) result mid held' midway faults' → IsWritten (text_of script) result held held' faults faults'
+pub ended : {U : Type 0} (script : Script) (first last : ClusterStanding) (result : Result U RunError) (gathered : List ℕ) (held mid held' : Option (List ℕ)) (faults midway faults' : ℕ) → first ≡ record { world = first_world script.servers script.clients; failed = false; befores = 0 } → RanEvents first script.events last gathered held mid → midway ≡ faults → IsWritten (gathered ++ end_lines last.world.history) result mid held' midway faults' → IsWritten (text_of script) result held held' faults faults'
 ended {U} script first last result gathered held mid held' faults midway faults' is ran calm wrote =
     let ending = end_lines last.world.history in
     let text : text_of script ≡ ran.written ++ (gathered ++ ending) = sym (text_of_first script first is) ∙ ran.text ∙ append_assoc ran.written gathered ending in

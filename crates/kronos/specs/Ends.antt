@@ -11,6 +11,7 @@ use Rattle.script_lang.specs.Number.{IsFromOneTo}
 use Rattle.script_lang.specs.Script.{Parses, IsBadLine}
 use Rattle.kr_world.specs.Run.{run_of, text_of}
 use Rattle.kr_world.specs.Lawful.{IsLawful}
+use Rattle.kr_calm.specs.Calm.{IsCalmRun}
 use Rattle.load_gen.specs.Summary.{load_text}
 use Rattle.kronos.specs.declared.exit.Exit.{Exit}
 use Rattle.kronos.specs.declared.exit.Exit.TheVariants.{Done, Usage, BadLine, TooLong, ReadFault, WriteFault, NoMemory}
@@ -46,7 +47,7 @@ abbrev pub bad_line : ℕ → List ℕ
 bad_line n = line (codes "bad line " ++ decimal n)
 
 -- no read and no write failed
-pub record IsCalm (before after : Outside) : Type 0 where
+pub record IsFaultless (before after : Outside) : Type 0 where
   pub reads : after.reads ≡ before.reads
   pub writes : after.writes ≡ before.writes
 
@@ -56,12 +57,14 @@ pub record HasRead (words : List (List ℕ)) (before after : Outside) (bytes : L
   pub whole : GaveAll input_limit before.left after.left bytes
   pub calm : after.reads ≡ before.reads
 
--- these bytes are a script, and the text of its run is due; the run is lawful
+-- these bytes are a script, and the text of its run is due; the run is lawful, and from each calm world on so many rounds
+-- answer every call
 pub record IsRunOf (bytes text : List ℕ) : Type 0 where
   pub script : Script
   pub parses : Parses bytes script
   pub text_is : text ≡ text_of script
   pub lawful : IsLawful (run_of script)
+  pub answered : IsCalmRun script
 
 -- line n of these bytes is the first that is in no script, and a line that says so is due
 pub record IsRefusalOf (bytes : List ℕ) (n : ℕ) (text : List ℕ) : Type 0 where
@@ -72,7 +75,7 @@ pub record IsRefusalOf (bytes : List ℕ) (n : ℕ) (text : List ℕ) : Type 0 w
 abbrev pub IsDueFor : List ℕ → List ℕ → Type 0
 IsDueFor bytes text = IsRunOf bytes text ⊎ ((n : ℕ) × IsRefusalOf bytes n text)
 
--- Done: the whole input was read and is a script, and the text of its run was written, which is lawful.
+-- Done: the whole input was read and is a script, and the text of its run was written, which is lawful and calm.
 pub record HasRun (words : List (List ℕ)) (before after : Outside) : Type 0 where
   pub bytes : List ℕ
   pub text : List ℕ
@@ -107,7 +110,7 @@ pub record IsTooLong (words : List (List ℕ)) (before after : Outside) : Type 0
   pub form : AskForScript words
   pub over : GaveTooMany input_limit before.left after.left
   pub unwritten : Keeps before.held after.held
-  pub calm : IsCalm before after
+  pub calm : IsFaultless before after
 
 -- ReadFault: the source counted a fault, and nothing was written.
 pub record FailedToRead (words : List (List ℕ)) (before after : Outside) : Type 0 where
@@ -127,7 +130,8 @@ pub record HadToWrite (words : List (List ℕ)) (before after : Outside) (text :
 -- line where the words are no form, and nothing was read then.
 abbrev pub FailedToWrite : List (List ℕ) → Outside → Outside → Type 0
 FailedToWrite words before after =
-    (IsNoForm words before after × TookBeforeFault usage_line before.held after.held before.writes after.writes) ⊎ ((text : List ℕ) × HadToWrite words before after text × TookBeforeFault text before.held after.held before.writes after.writes)
+    (IsNoForm words before after × TookBeforeFault usage_line before.held after.held before.writes after.writes)
+    ⊎ ((text : List ℕ) × HadToWrite words before after text × TookBeforeFault text before.held after.held before.writes after.writes)
 
 -- the sink took a front of the text, and not all of it
 pub record TookFront (text : List ℕ) (held held' : Option (List ℕ)) : Type 0 where
@@ -140,8 +144,9 @@ pub record TookFront (text : List ℕ) (held held' : Option (List ℕ)) : Type 0
 pub record LacksMemory (words : List (List ℕ)) (before after : Outside) : Type 0 where
   pub form : AskForScript words
   pub given : GaveSome input_limit before.left after.left
-  pub calm : IsCalm before after
-  pub written : Keeps before.held after.held ⊎ ((text : List ℕ) × HadToWrite words before after text × TookFront text before.held after.held)
+  pub calm : IsFaultless before after
+  pub written : Keeps before.held after.held
+      ⊎ ((text : List ℕ) × HadToWrite words before after text × TookFront text before.held after.held)
 
 -- the words ask for the load of so many rounds, and nothing was read
 pub record IsLoad (rounds : ℕ) (words : List (List ℕ)) (before after : Outside) : Type 0 where

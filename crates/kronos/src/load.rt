@@ -75,6 +75,7 @@ fn cluster_after<R: Threads + Sync>(
     requires few { length script.now.events ≤ 2 ^ 58 }
     ensures { IfOk result (λ cluster. cluster ≡ last_cluster script.now) }
 {
+    // a proof step: the law does nothing when it runs
     kr_world::laws::befores_are_few();
     let mut cluster = Cluster::new(alloc, script.servers, script.clients)?;
     let mut lines = Vec::new(alloc);

@@ -7,10 +7,10 @@
 mod exit;
 mod form;
 mod load;
-#[cfg(test)]
-mod rows;
 mod run;
 mod script;
+#[cfg(test)]
+mod tests;
 
 use exit::Exit;
 use kr_text::{StdSink, StdSource};

@@ -17,43 +17,43 @@ use std::thread::Threads;
 
 /// Why a run ends before its text does.
 #[derive(Clone, Copy, Debug, PartialEq, Eq)]
-pub enum Stop {
+pub enum RunError {
     /// A write failed.
     Write,
     /// There was no memory.
     Memory,
 }
 
-impl From<WriteStop> for Stop {
+impl From<WriteStop> for RunError {
     ghost use Rattle.std.specs.Prelude.{◌≡◌};
-    ghost use Rattle.kronos.specs.declared.run.Stop.TheVariants.{Write};
+    ghost use Rattle.kronos.specs.declared.run.RunError.TheVariants.{Write};
 
     ghost from_gives = { λ _ stop. stop ≡ Write };
 
     fn from(_: WriteStop) -> Self {
-        Stop::Write
+        RunError::Write
     }
 }
 
-impl From<AllocError> for Stop {
+impl From<AllocError> for RunError {
     ghost use Rattle.std.specs.Prelude.{◌≡◌};
-    ghost use Rattle.kronos.specs.declared.run.Stop.TheVariants.{Memory};
+    ghost use Rattle.kronos.specs.declared.run.RunError.TheVariants.{Memory};
 
     ghost from_gives = { λ _ stop. stop ≡ Memory };
 
     fn from(_: AllocError) -> Self {
-        Stop::Memory
+        RunError::Memory
     }
 }
 
-impl From<NoMemory> for Stop {
+impl From<NoMemory> for RunError {
     ghost use Rattle.std.specs.Prelude.{◌≡◌};
-    ghost use Rattle.kronos.specs.declared.run.Stop.TheVariants.{Memory};
+    ghost use Rattle.kronos.specs.declared.run.RunError.TheVariants.{Memory};
 
     ghost from_gives = { λ _ stop. stop ≡ Memory };
 
     fn from(_: NoMemory) -> Self {
-        Stop::Memory
+        RunError::Memory
     }
 }
 
@@ -66,14 +66,14 @@ pub fn run<R: Threads + Sync, K: Sink>(
     alloc: Global,
     script: &Script,
     sink: &mut K,
-) -> Result<(), Stop>
+) -> Result<(), RunError>
     requires fit { IsScript script.now }
     requires few { length script.now.events < 2 ^ 63 }
     ensures { IsWritten (text_of script.now) result (K.held sink.old) (K.held sink.new) (K.faults sink.old) (K.faults sink.new) }
 {
     let mut cluster = match Cluster::new(alloc, script.servers, script.clients) {
         Ok(cluster) => cluster,
-        Err(_) => return Err(Stop::Memory),
+        Err(_) => return Err(RunError::Memory),
     };
     let mut gathered = Vec::new(alloc);
     match run_events(
@@ -95,12 +95,13 @@ fn run_events<R: Threads + Sync, K: Sink>(
     events: &[Event],
     gathered: &mut Vec<u8>,
     sink: &mut K,
-) -> Result<(), Stop>
+) -> Result<(), RunError>
     requires each { All IsEvent events.now }
     requires none { gathered.old.items ≡ [] }
     requires first { HaveBegun 0 cluster.old.world.clients }
     requires few { length events.now < 2 ^ 63 }
-    ensures { RunsEvents cluster.old events.now result cluster.new gathered.new.items (K.held sink.old) (K.held sink.new) (K.faults sink.old) (K.faults sink.new) }
+    ensures { RunsEvents cluster.old events.now result cluster.new gathered.new.items (K.held sink.old) (K.held sink.new)
+        (K.faults sink.old) (K.faults sink.new) }
 {
     for event in events {
         match turn(rt, cluster, event, gathered, sink) {
@@ -118,10 +119,11 @@ fn turn<R: Threads + Sync, K: Sink>(
     event: &Event,
     gathered: &mut Vec<u8>,
     sink: &mut K,
-) -> Result<(), Stop>
+) -> Result<(), RunError>
     requires event { IsEvent event.now }
     requires few { HaveBegun (2 ^ 63 - 1) cluster.old.world.clients }
-    ensures { Turns cluster.old event.now gathered.old.items result cluster.new gathered.new.items (K.held sink.old) (K.held sink.new) (K.faults sink.old) (K.faults sink.new) }
+    ensures { Turns cluster.old event.now gathered.old.items result cluster.new gathered.new.items (K.held sink.old) (K.held sink.new)
+        (K.faults sink.old) (K.faults sink.new) }
 {
     cluster.step_onto(rt, event, gathered)?;
     if gathered.len() < PIECE {
@@ -133,8 +135,9 @@ fn turn<R: Threads + Sync, K: Sink>(
 }
 
 // Writes the lines that are gathered, and then those of the history.
-fn finish<K: Sink>(cluster: &Cluster, gathered: &[u8], sink: &mut K) -> Result<(), Stop>
-    ensures { IsWritten (gathered.now ++ end_lines cluster.now.world.history) result (K.held sink.old) (K.held sink.new) (K.faults sink.old) (K.faults sink.new) }
+fn finish<K: Sink>(cluster: &Cluster, gathered: &[u8], sink: &mut K) -> Result<(), RunError>
+    ensures { IsWritten (gathered.now ++ end_lines cluster.now.world.history) result (K.held sink.old) (K.held sink.new)
+        (K.faults sink.old) (K.faults sink.new) }
 {
     match write(sink, gathered) {
         Ok(()) => write_history(cluster, sink),
@@ -143,21 +146,22 @@ fn finish<K: Sink>(cluster: &Cluster, gathered: &[u8], sink: &mut K) -> Result<(
 }
 
 // Writes the lines of the history.
-fn write_history<K: Sink>(cluster: &Cluster, sink: &mut K) -> Result<(), Stop>
-    ensures { IsWritten (end_lines cluster.now.world.history) result (K.held sink.old) (K.held sink.new) (K.faults sink.old) (K.faults sink.new) }
+fn write_history<K: Sink>(cluster: &Cluster, sink: &mut K) -> Result<(), RunError>
+    ensures { IsWritten (end_lines cluster.now.world.history) result (K.held sink.old) (K.held sink.new) (K.faults sink.old)
+        (K.faults sink.new) }
 {
     match cluster.finish() {
         Ok(ending) => write(sink, ending.as_slice()),
-        Err(_) => Err(Stop::Memory),
+        Err(_) => Err(RunError::Memory),
     }
 }
 
 // Writes the text.
-fn write<K: Sink>(sink: &mut K, text: &[u8]) -> Result<(), Stop>
+fn write<K: Sink>(sink: &mut K, text: &[u8]) -> Result<(), RunError>
     ensures { IsWritten text.now result (K.held sink.old) (K.held sink.new) (K.faults sink.old) (K.faults sink.new) }
 {
     match write_all(sink, text) {
         Ok(()) => Ok(()),
-        Err(WriteStop::Fault) => Err(Stop::Write),
+        Err(WriteStop::Fault) => Err(RunError::Write),
     }
 }

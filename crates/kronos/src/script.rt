@@ -8,7 +8,7 @@ ghost use Rattle.kronos.specs.Runs.{IsWritten, exit_after};
 use crate::exit::Exit;
 use crate::form::{Form, form_of};
 use crate::load::run_load;
-use crate::run::{Stop, run};
+use crate::run::{RunError, run};
 use kr_text::{ReadStop, Sink, Source, WriteStop, read_all, write_all};
 use script_lang::{ScriptStop, read_script};
 use std::alloc::Global;
@@ -44,6 +44,7 @@ pub fn kronos_script<R: Threads + Sync, S: Source, K: Sink>(
         (record { left = S.left source.new; reads = S.faults source.new; held = K.held sink.new; writes = K.faults sink.new })
         → (result ≡ Exit.Done) ⊎ (result ≡ Exit.NoMemory) }
 {
+    // a proof step: the law does nothing when it runs
     script_lang::laws::bad_lines_are_in_no_script();
     run_words(rt, alloc, words, source, sink)
 }
@@ -94,7 +95,9 @@ fn run_input<R: Threads + Sync, S: Source, K: Sink>(
 fn run_bytes<R: Threads + Sync, K: Sink>(rt: &R, alloc: Global, bytes: &[u8], sink: &mut K) -> Exit
     ensures { EndsOnBytes result bytes.now (K.held sink.old) (K.held sink.new) (K.faults sink.old) (K.faults sink.new) }
 {
+    // proof steps: the laws do nothing when they run
     kr_world::laws::runs_are_lawful();
+    kr_calm::laws::runs_are_calm();
     let script = match read_script(alloc, bytes) {
         Ok(script) => script,
         Err(ScriptStop::BadLine(n)) => return exit_of(
@@ -107,18 +110,18 @@ fn run_bytes<R: Threads + Sync, K: Sink>(rt: &R, alloc: Global, bytes: &[u8], si
 }
 
 // The exit of a call that writes.
-fn exit_of(written: Result<(), Stop>, exit: Exit) -> Exit
+fn exit_of(written: Result<(), RunError>, exit: Exit) -> Exit
     ensures { result ≡ exit_after written exit }
 {
     match written {
         Ok(()) => exit,
-        Err(Stop::Write) => Exit::WriteFault,
-        Err(Stop::Memory) => Exit::NoMemory,
+        Err(RunError::Write) => Exit::WriteFault,
+        Err(RunError::Memory) => Exit::NoMemory,
     }
 }
 
 // Writes which line is bad.
-fn say_bad_line<K: Sink>(alloc: Global, sink: &mut K, n: u64) -> Result<(), Stop>
+fn say_bad_line<K: Sink>(alloc: Global, sink: &mut K, n: u64) -> Result<(), RunError>
     ensures { IsWritten (bad_line n) result (K.held sink.old) (K.held sink.new) (K.faults sink.old) (K.faults sink.new) }
 {
     let line = format!(in alloc; "bad line {n}\n")?;

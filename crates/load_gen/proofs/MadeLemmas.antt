@@ -1,5 +1,5 @@
 -- How many packets a load sends, and that it is a script.
-use Rattle.std.proofs.Common.{◌≡◌, ℕ, zero, suc, ◌+◌, ◌-◌, ◌*◌, ◌/◌, ◌%◌, ◌≤◌, Bool, true, false, cond, leb, eqb, List, [], ◌∷◌, ◌++◌, map, refl, ap, ◌∙◌, arith}
+use Rattle.std.proofs.Common.{◌≡◌, ℕ, zero, suc, ◌+◌, ◌-◌, ◌*◌, ◌%◌, ◌≤◌, Bool, true, false, cond, leb, eqb, List, [], ◌∷◌, map, refl, ap, ◌∙◌, arith}
 use Rattle.std.specs.Prelude.{All}
 use Rattle.std.proofs.lemmas.Bool.{leb-true, eqb-true}
 use Rattle.std.proofs.lemmas.List.Sums.{sum_by-append, sum_by-cons}
@@ -10,11 +10,10 @@ use Rattle.kr_order.specs.declared.ids.ServerId.{ServerId}
 use Rattle.kr_order.specs.declared.batch.Pair.{Pair}
 use Rattle.kr_order.specs.declared.batch.Kind.TheVariants.{Must}
 use Rattle.kr_order.specs.declared.history.Command.{Command}
-use Rattle.kr_order.specs.declared.history.Command.TheVariants.{Create, Assign, Release}
+use Rattle.kr_order.specs.declared.history.Command.TheVariants.{Create, Release}
 use Rattle.kr_order.specs.Numbers.{numbers_to}
 use Rattle.script_lang.specs.declared.script.Event.{Event}
 use Rattle.script_lang.specs.declared.script.Event.TheVariants.{Call, Query, Deliver, Work}
-use Rattle.script_lang.specs.Number.{IsFromOneTo}
 use Rattle.script_lang.specs.Event.{IsNumber, IsEventNumber, IsPair, IsAskedPair, IsCommand, IsEvent}
 use Rattle.script_lang.specs.Script.{IsScript}
 use Rattle.kr_world.specs.Round.{IsStep}

@@ -61,7 +61,8 @@ assigns round events =
 -- every fifth round it asks whether the event of four rounds before is before this one
 abbrev pub asks : ℕ → List Event → List Event
 asks round events =
-    if round % 5 == 0 then with_query events (client_of round) (server_of round) (record { 0 = round - 4 }, record { 0 = round }) else events
+    if round % 5 == 0 then with_query events (client_of round) (server_of round) (record { 0 = round - 4 }, record { 0 = round })
+    else events
 
 -- and from the eleventh on it releases the event of ten rounds before
 abbrev pub releases : ℕ → List Event → List Event

@@ -1,12 +1,8 @@
 -- Small loads, and what is printed of them, by hand.
 use Rattle.std.specs.Prelude.{ℕ, List, [], ◌∷◌, ◌++◌, codes}
-use Rattle.kr_order.specs.declared.ids.ClientId.{ClientId}
-use Rattle.kr_order.specs.declared.ids.EventId.{EventId}
-use Rattle.kr_order.specs.declared.ids.ServerId.{ServerId}
-use Rattle.kr_order.specs.declared.batch.Kind.TheVariants.{Must}
-use Rattle.kr_order.specs.declared.history.Command.TheVariants.{Create, Assign}
+use Rattle.kr_order.specs.declared.history.Command.TheVariants.{Create}
 use Rattle.script_lang.specs.declared.script.Event.{Event}
-use Rattle.script_lang.specs.declared.script.Event.TheVariants.{Call, Query, Deliver, Work}
+use Rattle.script_lang.specs.declared.script.Event.TheVariants.{Call, Deliver}
 use Rattle.script_lang.specs.Line.{line}
 
 -- one round is one create

@@ -41,7 +41,10 @@ counted_line word n = line (word ++ decimal n)
 
 abbrev pub summary_lines : Summary → List ℕ
 summary_lines summary =
-    counted_line (codes "calls ") summary.calls ++ counted_line (codes "history ") summary.history ++ counted_line (codes "packets ") summary.packets ++ counted_line (codes "born ") summary.born ++ counted_line (codes "held ") summary.held ++ counted_line (codes "pairs ") summary.pairs ++ counted_line (codes "before ") summary.before ++ line (codes "end")
+    counted_line (codes "calls ") summary.calls ++ counted_line (codes "history ") summary.history
+    ++ counted_line (codes "packets ") summary.packets ++ counted_line (codes "born ") summary.born
+    ++ counted_line (codes "held ") summary.held ++ counted_line (codes "pairs ") summary.pairs
+    ++ counted_line (codes "before ") summary.before ++ line (codes "end")
 
 -- the summary of the load of so many rounds
 abbrev pub load_text : ℕ → List ℕ

@@ -8,8 +8,6 @@ mod count;
 pub mod laws;
 mod rounds;
 mod summary;
-#[cfg(test)]
-mod tests;
 
 pub use count::calls;
 pub use rounds::make;

@@ -5,7 +5,8 @@ ghost use Rattle.kr_order.specs.declared.ids.EventId.{EventId};
 ghost use Rattle.script_lang.specs.Number.{IsFromOneTo};
 ghost use Rattle.script_lang.specs.Script.{IsScript};
 ghost use Rattle.kr_world.specs.Round.{IsStep};
-ghost use Rattle.load_gen.specs.Made.{asks, assigns, client_of, creates, deliveries, made, must_pair, releases, sent_by, server_of, with_command, with_query, with_round};
+ghost use Rattle.load_gen.specs.Made.{asks, assigns, client_of, creates, deliveries, made, must_pair, releases, sent_by, server_of};
+ghost use Rattle.load_gen.specs.Made.{with_command, with_query, with_round};
 
 use kr_order::{
     Asked, Batch, ClientId, Command, EventId, Kind, NoMemory, Pair, PushStop, ServerId,

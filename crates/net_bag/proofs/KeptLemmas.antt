@@ -10,8 +10,9 @@ use Rattle.std.proofs.lemmas.List.{length_push, length-set, length-map, take_at}
 use Rattle.std.proofs.lemmas.List.Elements.{All-push, All-get_or}
 use Rattle.std.proofs.lemmas.Nat.Bits.{bit_at-zero}
 use Rattle.kr_wire.specs.Decoding.{IsSpelling}
-use Rattle.net_bag.specs.Index.{bit_in, mark_bit, settled_bit, words_for, IsIndexed, IsFirstUnsetIn}
-use Rattle.net_bag.specs.Sent.{Sent, spelling_at, sent_after, is_marked, is_open, IsNextOpen, HasNoOpen}
+use Rattle.net_bag.specs.Index.{bit_in, mark_bit, closed_bit, words_for, IsIndexed, IsFirstUnsetIn}
+use Rattle.kr_order.specs.Marks.{is_marked}
+use Rattle.net_bag.specs.Sent.{Sent, spelling_at, sent_after, is_open, IsNextOpen, HasNoOpen}
 use Rattle.net_bag.specs.Kept.{IsKept}
 
 -- a default put at the end changes nothing that is looked up
@@ -20,10 +21,6 @@ get_or-push_default [] zero d = refl
 get_or-push_default [] (suc i) d = refl
 get_or-push_default (x ∷ xs) zero d = refl
 get_or-push_default (x ∷ xs) (suc i) d = get_or-push_default xs i d
-
--- no packet, no word
-pub indexed_new : IsIndexed [] [] []
-indexed_new = record { bits = λ i. bit_at-zero (i % 64); room = omega arith; few = omega arith }
 
 -- one packet more, where the words have room for it
 pub indexed_push : (words : List ℕ) (lost delivered : List Bool) → IsIndexed words lost delivered → length lost ≢ 64 * length words → IsIndexed words (lost ++ false ∷ []) (delivered ++ false ∷ [])
@@ -57,20 +54,16 @@ abbrev pub sent_of : List (List ℕ) → List Bool → List Bool → Sent
 sent_of spellings lost delivered = record { spellings = spellings; lost = lost; delivered = delivered }
 
 -- one packet more
-pub kept_push : (spellings : List (List ℕ)) (lost delivered : List Bool) (settled : List ℕ) (bytes : ℕ) (spelling : List ℕ) → IsKept spellings lost delivered settled bytes → IsSpelling spelling → length spellings < 2 ^ 56 → IsKept (spellings ++ spelling ∷ []) (lost ++ false ∷ []) (delivered ++ false ∷ []) (words_for settled (length spellings)) (min (bytes + length spelling) (2 ^ 64 - 1))
-kept_push spellings lost delivered settled bytes spelling was spells room =
+pub kept_push : (spellings : List (List ℕ)) (lost delivered : List Bool) (closed : List ℕ) (bytes : ℕ) (spelling : List ℕ) → IsKept spellings lost delivered closed bytes → IsSpelling spelling → length spellings < 2 ^ 56 → IsKept (spellings ++ spelling ∷ []) (lost ++ false ∷ []) (delivered ++ false ∷ []) (words_for closed (length spellings)) (min (bytes + length spelling) (2 ^ 64 - 1))
+kept_push spellings lost delivered closed bytes spelling was spells room =
     record {
       each = All-push IsSpelling spellings spelling was.each spells;
       lost_each = omega (arith, length_push lost false, length_push spellings spelling, was.lost_each);
       delivered_each = omega (arith, length_push delivered false, length_push spellings spelling, was.delivered_each);
-      indexed = subst (λ n. IsIndexed (words_for settled n) (lost ++ false ∷ []) (delivered ++ false ∷ [])) was.lost_each (indexed_more settled lost delivered was.indexed);
+      indexed = subst (λ n. IsIndexed (words_for closed n) (lost ++ false ∷ []) (delivered ++ false ∷ [])) was.lost_each (indexed_more closed lost delivered was.indexed);
       few = omega (arith, length_push spellings spelling, room);
       counted = omega (arith, sum_by_push (λ s. length s) spellings spelling, was.counted);
     }
-
--- the words are few enough to be counted
-pub words_fit : (spellings : List (List ℕ)) (lost delivered : List Bool) (settled : List ℕ) (bytes : ℕ) → IsKept spellings lost delivered settled bytes → 64 * length settled < 2 ^ 63
-words_fit spellings lost delivered settled bytes was = omega (arith, was.indexed.few, was.lost_each, was.few)
 
 -- no packet has this number
 pub spelling_missed : {item : Type 0} (f : item → List ℕ) (xs : List item) (sent : Sent) (k : ℕ) → map f xs ≡ sent.spellings → length xs ≤ k - 1 → None ≡ spelling_at sent k
@@ -87,13 +80,13 @@ spelling_fits f xs i x each within is =
     subst IsSpelling there (All-get_or IsSpelling (map f xs) i (f x) (omega (arith, within, length-map xs f)) each)
 
 -- the same parts under other names
-pub kept_same : (spellings spellings' : List (List ℕ)) (lost lost' delivered delivered' : List Bool) (settled settled' : List ℕ) (bytes bytes' : ℕ) → spellings' ≡ spellings → lost' ≡ lost → delivered' ≡ delivered → settled' ≡ settled → bytes' ≡ bytes → IsKept spellings lost delivered settled bytes → IsKept spellings' lost' delivered' settled' bytes'
-kept_same spellings spellings' lost lost' delivered delivered' settled settled' bytes bytes' e1 e2 e3 e4 e5 was =
-    let one : IsKept spellings' lost delivered settled bytes = subst (λ x. IsKept x lost delivered settled bytes) (sym e1) was in
-    let two : IsKept spellings' lost' delivered settled bytes = subst (λ x. IsKept spellings' x delivered settled bytes) (sym e2) one in
-    let three : IsKept spellings' lost' delivered' settled bytes = subst (λ x. IsKept spellings' lost' x settled bytes) (sym e3) two in
-    let four : IsKept spellings' lost' delivered' settled' bytes = subst (λ x. IsKept spellings' lost' delivered' x bytes) (sym e4) three in
-    subst (λ x. IsKept spellings' lost' delivered' settled' x) (sym e5) four
+pub kept_same : (spellings spellings' : List (List ℕ)) (lost lost' delivered delivered' : List Bool) (closed closed' : List ℕ) (bytes bytes' : ℕ) → spellings' ≡ spellings → lost' ≡ lost → delivered' ≡ delivered → closed' ≡ closed → bytes' ≡ bytes → IsKept spellings lost delivered closed bytes → IsKept spellings' lost' delivered' closed' bytes'
+kept_same spellings spellings' lost lost' delivered delivered' closed closed' bytes bytes' e1 e2 e3 e4 e5 was =
+    let one : IsKept spellings' lost delivered closed bytes = subst (λ x. IsKept x lost delivered closed bytes) (sym e1) was in
+    let two : IsKept spellings' lost' delivered closed bytes = subst (λ x. IsKept spellings' x delivered closed bytes) (sym e2) one in
+    let three : IsKept spellings' lost' delivered' closed bytes = subst (λ x. IsKept spellings' lost' x closed bytes) (sym e3) two in
+    let four : IsKept spellings' lost' delivered' closed' bytes = subst (λ x. IsKept spellings' lost' delivered' x bytes) (sym e4) three in
+    subst (λ x. IsKept spellings' lost' delivered' closed' x) (sym e5) four
 
 pub sent_same : (sent : Sent) (spelling : List ℕ) (spellings' : List (List ℕ)) (lost' delivered' : List Bool) → spellings' ≡ sent.spellings ++ spelling ∷ [] → lost' ≡ sent.lost ++ false ∷ [] → delivered' ≡ sent.delivered ++ false ∷ [] → sent_of spellings' lost' delivered' ≡ sent_after sent spelling
 sent_same sent spelling spellings' lost' delivered' e1 e2 e3 =
@@ -109,9 +102,9 @@ or_true : (b : Bool) → (b || true) ≡ true
 or_true true = refl
 or_true false = refl
 
--- one more is settled
-settled_lost : (words words' : List ℕ) (lost delivered : List Bool) (i : ℕ) → i < length lost → ((j : ℕ) → bit_in words j ≡ settled_bit lost delivered j) → ((j : ℕ) → bit_in words' j ≡ cond (eqb j i) 1 (bit_in words j)) → (j : ℕ) → bit_in words' j ≡ settled_bit (set lost i true) delivered j
-settled_lost words words' lost delivered i within was is j =
+-- one more is closed
+closed_lost : (words words' : List ℕ) (lost delivered : List Bool) (i : ℕ) → i < length lost → ((j : ℕ) → bit_in words j ≡ closed_bit lost delivered j) → ((j : ℕ) → bit_in words' j ≡ cond (eqb j i) 1 (bit_in words j)) → (j : ℕ) → bit_in words' j ≡ closed_bit (set lost i true) delivered j
+closed_lost words words' lost delivered i within was is j =
     elim (cases_eq j i) [
       | inl same ↦
           let marks : get_or (set lost i true) j false ≡ true = ap (λ n. get_or (set lost i true) n false) same ∙ get_or-set_same lost i true false within in
@@ -120,8 +113,8 @@ settled_lost words words' lost delivered i within was is j =
           is j ∙ ap (λ b. cond b 1 (bit_in words j)) (ne_eqb j i other) ∙ was j ∙ ap (λ b. mark_bit (b || get_or delivered j false)) (sym (get_or-set_other lost i j true false other))
     ]
 
-settled_delivered : (words words' : List ℕ) (lost delivered : List Bool) (i : ℕ) → i < length delivered → ((j : ℕ) → bit_in words j ≡ settled_bit lost delivered j) → ((j : ℕ) → bit_in words' j ≡ cond (eqb j i) 1 (bit_in words j)) → (j : ℕ) → bit_in words' j ≡ settled_bit lost (set delivered i true) j
-settled_delivered words words' lost delivered i within was is j =
+closed_delivered : (words words' : List ℕ) (lost delivered : List Bool) (i : ℕ) → i < length delivered → ((j : ℕ) → bit_in words j ≡ closed_bit lost delivered j) → ((j : ℕ) → bit_in words' j ≡ cond (eqb j i) 1 (bit_in words j)) → (j : ℕ) → bit_in words' j ≡ closed_bit lost (set delivered i true) j
+closed_delivered words words' lost delivered i within was is j =
     elim (cases_eq j i) [
       | inl same ↦
           let marks : get_or (set delivered i true) j false ≡ true = ap (λ n. get_or (set delivered i true) n false) same ∙ get_or-set_same delivered i true false within in
@@ -131,14 +124,14 @@ settled_delivered words words' lost delivered i within was is j =
     ]
 
 -- a packet was marked as lost
-pub kept_lost : (spellings : List (List ℕ)) (lost delivered : List Bool) (settled words : List ℕ) (bytes i : ℕ) → IsKept spellings lost delivered settled bytes → i < length spellings → length words ≡ length settled → ((j : ℕ) → bit_in words j ≡ cond (eqb j i) 1 (bit_in settled j)) → IsKept spellings (set lost i true) delivered words bytes
-kept_lost spellings lost delivered settled words bytes i was within count is =
+pub kept_lost : (spellings : List (List ℕ)) (lost delivered : List Bool) (closed words : List ℕ) (bytes i : ℕ) → IsKept spellings lost delivered closed bytes → i < length spellings → length words ≡ length closed → ((j : ℕ) → bit_in words j ≡ cond (eqb j i) 1 (bit_in closed j)) → IsKept spellings (set lost i true) delivered words bytes
+kept_lost spellings lost delivered closed words bytes i was within count is =
     record {
       each = was.each;
       lost_each = length-set lost i true ∙ was.lost_each;
       delivered_each = was.delivered_each;
       indexed = record {
-        bits = settled_lost settled words lost delivered i (omega (arith, was.lost_each)) was.indexed.bits is;
+        bits = closed_lost closed words lost delivered i (omega (arith, was.lost_each)) was.indexed.bits is;
         room = omega (arith, length-set lost i true, was.indexed.room);
         few = omega (arith, length-set lost i true, was.indexed.few);
       };
@@ -147,14 +140,14 @@ kept_lost spellings lost delivered settled words bytes i was within count is =
     }
 
 -- or as delivered
-pub kept_delivered : (spellings : List (List ℕ)) (lost delivered : List Bool) (settled words : List ℕ) (bytes i : ℕ) → IsKept spellings lost delivered settled bytes → i < length spellings → length words ≡ length settled → ((j : ℕ) → bit_in words j ≡ cond (eqb j i) 1 (bit_in settled j)) → IsKept spellings lost (set delivered i true) words bytes
-kept_delivered spellings lost delivered settled words bytes i was within count is =
+pub kept_delivered : (spellings : List (List ℕ)) (lost delivered : List Bool) (closed words : List ℕ) (bytes i : ℕ) → IsKept spellings lost delivered closed bytes → i < length spellings → length words ≡ length closed → ((j : ℕ) → bit_in words j ≡ cond (eqb j i) 1 (bit_in closed j)) → IsKept spellings lost (set delivered i true) words bytes
+kept_delivered spellings lost delivered closed words bytes i was within count is =
     record {
       each = was.each;
       lost_each = was.lost_each;
       delivered_each = length-set delivered i true ∙ was.delivered_each;
       indexed = record {
-        bits = settled_delivered settled words lost delivered i (omega (arith, was.delivered_each)) was.indexed.bits is;
+        bits = closed_delivered closed words lost delivered i (omega (arith, was.delivered_each)) was.indexed.bits is;
         room = omega (arith, was.indexed.room);
         few = omega (arith, was.indexed.few);
       };
@@ -168,13 +161,13 @@ open_at : (b : Bool) → mark_bit b ≡ 0 → not b ≡ true
 open_at true is = absurd (omega arith)
 open_at false is = refl
 
-settled_at : (b : Bool) → mark_bit b ≡ 1 → not b ≡ false
-settled_at true is = refl
-settled_at false is = absurd (omega arith)
+closed_at : (b : Bool) → mark_bit b ≡ 1 → not b ≡ false
+closed_at true is = refl
+closed_at false is = absurd (omega arith)
 
--- packet k is settled where its bit is set
+-- packet k is closed where its bit is set
 settled_one : (words : List ℕ) (sent : Sent) (k : ℕ) → IsIndexed words sent.lost sent.delivered → bit_in words (k - 1) ≡ 1 → is_open sent k ≡ false
-settled_one words sent k indexed set = settled_at (is_marked sent.lost k || is_marked sent.delivered k) (sym (indexed.bits (k - 1)) ∙ set)
+settled_one words sent k indexed set = closed_at (is_marked sent.lost k || is_marked sent.delivered k) (sym (indexed.bits (k - 1)) ∙ set)
 
 -- the first bit that is 0 is that of the next packet
 pub next_open : (words : List ℕ) (sent : Sent) (after last i : ℕ) → IsIndexed words sent.lost sent.delivered → IsFirstUnsetIn words after i → i + 1 ≤ last → i + 1 ≤ length sent.spellings → IsNextOpen sent after last (i + 1)

@@ -1,5 +1,6 @@
--- The words of bits that say which packets are settled: lost or delivered.
-use Rattle.std.specs.Prelude.{◌≡◌, ◌≤◌, ◌<◌, ℕ, ◌+◌, ◌*◌, ◌/◌, ◌%◌, ◌^◌, ◌||◌, ◌==◌, ◌++◌, ◌∷◌, [], Bool, false, List, length, slice_index, slice_index_or, if◌then◌else◌}
+-- The words of bits that say which packets are closed: lost or delivered.
+use Rattle.std.specs.Prelude.{◌≡◌, ◌≤◌, ◌<◌, ℕ, ◌+◌, ◌*◌, ◌/◌, ◌%◌, ◌^◌, ◌||◌, ◌==◌, ◌++◌, ◌∷◌, [], Bool, false, List, length}
+use Rattle.std.specs.Prelude.{slice_index, slice_index_or, if◌then◌else◌}
 use Rattle.std.specs.Int.{bit_at}
 
 -- bit i of the words, 64 of them in each
@@ -10,12 +11,12 @@ abbrev pub mark_bit : Bool → ℕ
 mark_bit mark = if mark then 1 else 0
 
 -- 1 where one of the marks stands at index i
-abbrev pub settled_bit : List Bool → List Bool → ℕ → ℕ
-settled_bit lost delivered i = mark_bit (slice_index_or lost i false || slice_index_or delivered i false)
+abbrev pub closed_bit : List Bool → List Bool → ℕ → ℕ
+closed_bit lost delivered i = mark_bit (slice_index_or lost i false || slice_index_or delivered i false)
 
 -- the words have these bits, and are as many as they need to be
 pub record IsIndexed (words : List ℕ) (lost delivered : List Bool) : Type 0 where
-  pub bits : (i : ℕ) → bit_in words i ≡ settled_bit lost delivered i
+  pub bits : (i : ℕ) → bit_in words i ≡ closed_bit lost delivered i
   pub room : length lost ≤ 64 * length words
   pub few : 64 * length words ≤ length lost + 63
 

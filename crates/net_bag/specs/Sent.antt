@@ -1,8 +1,10 @@
 -- What a bag holds: the spelling of each packet ever sent, and beside it which of them were lost and which were
 -- delivered. Packet k is at index k - 1.
-use Rattle.std.specs.Prelude.{◌≡◌, ◌≤◌, ◌<◌, ◌↔◌, ℕ, ◌+◌, ◌-◌, ◌*◌, ◌^◌, ◌++◌, ◌∷◌, [], ◌==◌, ◌||◌, Bool, true, false, not, List, length, sum_by, slice_get, slice_set, slice_index_or, if◌then◌else◌, Option, None, Some, IfSome, IfNone}
+use Rattle.std.specs.Prelude.{◌≡◌, ◌≤◌, ◌<◌, ◌↔◌, ℕ, ◌+◌, ◌-◌, ◌*◌, ◌^◌, ◌++◌, ◌∷◌, [], ◌==◌, ◌||◌, Bool, true, false, not, List, length}
+use Rattle.std.specs.Prelude.{sum_by, slice_get, if◌then◌else◌, Option, None, Some, IfSome, IfNone}
 use Rattle.kr_order.specs.declared.message.Node.{Node}
 use Rattle.kr_order.specs.declared.message.Packet.{Packet}
+use Rattle.kr_order.specs.Marks.{is_marked}
 use Rattle.kr_wire.specs.Valid.{IsPacket}
 use Rattle.kr_wire.specs.Spelling.{spelling}
 
@@ -28,14 +30,6 @@ spelling_at sent k = if k == 0 then None else slice_get sent.spellings (k - 1)
 pub record IsSent (sent : Sent) (k : ℕ) : Type 0 where
   pub first : 1 ≤ k
   pub last : k ≤ length sent.spellings
-
--- packet k has this mark
-abbrev pub is_marked : List Bool → ℕ → Bool
-is_marked marks k = slice_index_or marks (k - 1) false
-
--- the marks with one at packet k
-abbrev pub marked : List Bool → ℕ → List Bool
-marked marks k = slice_set marks (k - 1) true
 
 -- packet k was neither lost nor delivered
 abbrev pub is_open : Sent → ℕ → Bool

@@ -4,7 +4,8 @@ ghost use Rattle.std.specs.Prelude.{◌≡◌, ◌≤◌, ◌+◌, ◌^◌, min,
 ghost use Rattle.kr_wire.specs.Valid.{IsPacket};
 ghost use Rattle.kr_wire.specs.Spelling.{spelling};
 ghost use Rattle.kr_wire.specs.Decoding.{IsSpelling};
-ghost use Rattle.net_bag.specs.Sent.{nothing_sent, sent_after, spelling_at, IsSent, is_marked, marked, bytes_of, IsNextOpen, HasNoOpen, IsTo};
+ghost use Rattle.kr_order.specs.Marks.{is_marked, marked};
+ghost use Rattle.net_bag.specs.Sent.{nothing_sent, sent_after, spelling_at, IsSent, bytes_of, IsNextOpen, HasNoOpen, IsTo};
 
 use crate::bits::{first_unset, make_room, set_bit};
 use kr_order::{NoMemory, Node, Packet};
@@ -22,7 +23,7 @@ pub struct Bag {
     lost: Vec<bool>,
     delivered: Vec<bool>,
     // bit k - 1 is 1 where packet k was lost or delivered
-    settled: Vec<u64>,
+    closed: Vec<u64>,
     bytes: u64,
 }
 
@@ -40,7 +41,7 @@ impl Model for Bag {
     } };
 
     ghost invariant = { λ bag. IsKept (map (λ bytes. bytes.items) bag.spellings.items)
-        bag.lost.items bag.delivered.items bag.settled.items bag.bytes };
+        bag.lost.items bag.delivered.items bag.closed.items bag.bytes };
 }
 
 impl Bag {
@@ -52,7 +53,7 @@ impl Bag {
             spellings: Vec::new(alloc),
             lost: Vec::new(alloc),
             delivered: Vec::new(alloc),
-            settled: Vec::new(alloc),
+            closed: Vec::new(alloc),
             bytes: 0,
         }
     }
@@ -74,7 +75,7 @@ impl Bag {
         self.spellings.reserve(1)?;
         self.lost.reserve(1)?;
         self.delivered.reserve(1)?;
-        make_room(&mut self.settled, count)?;
+        make_room(&mut self.closed, count)?;
         self.bytes = self.bytes.saturating_add(spelling.len() as u64);
         self.spellings.push_reserved(spelling);
         self.lost.push_reserved(false);
@@ -112,7 +113,7 @@ impl Bag {
         ensures { self.new ≡ record self.old { lost = marked self.old.lost k } }
     {
         let i = (k - 1) as usize;
-        set_bit(&mut self.settled, i);
+        set_bit(&mut self.closed, i);
         self.lost[i] = true;
     }
 
@@ -122,7 +123,7 @@ impl Bag {
         ensures { self.new ≡ record self.old { delivered = marked self.old.delivered k } }
     {
         let i = (k - 1) as usize;
-        set_bit(&mut self.settled, i);
+        set_bit(&mut self.closed, i);
         self.delivered[i] = true;
     }
 
@@ -152,7 +153,7 @@ impl Bag {
         if count <= after {
             return None;
         }
-        let Some(i) = first_unset(&self.settled, after as usize) else {
+        let Some(i) = first_unset(&self.closed, after as usize) else {
             return None;
         };
         let k = i as u64 + 1;

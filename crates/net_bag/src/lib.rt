@@ -8,7 +8,5 @@
 
 mod bag;
 mod bits;
-#[cfg(test)]
-mod tests;
 
 pub use bag::Bag;

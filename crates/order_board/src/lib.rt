@@ -15,8 +15,6 @@ mod copies;
 mod door;
 mod history;
 pub mod laws;
-#[cfg(test)]
-mod locked;
 mod publishing;
 mod reader;
 mod rule;

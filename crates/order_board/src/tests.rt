@@ -113,7 +113,47 @@ pub fn pairs_of(alloc: Global, events: &[(u64, u64)]) -> Result<Asked, PushStop>
     Ok(pairs)
 }
 
-// The first event is made, told and asked for, and the readers are counted.
+// Whether the reader is told that the first event is the same as itself.
+fn is_told(alloc: Global, reader: &mut BoardReader) -> Result<bool, Fail> {
+    let pairs = pairs_of(alloc, &[(1, 1)])?;
+    let told = reader.query(&pairs)?;
+    let is_same = told.answers.as_slice() == [Answer::Same].as_slice();
+    Ok(is_same && told.entry == 1 && reader.seen() == 1 && reader.shuts() == 0)
+}
+
+// Whether the reader sees one event in the state behind its door.
+fn sees_one(reader: BoardReader) -> bool {
+    match reader.into_door().enter() {
+        Ok(opened) => {
+            let born = opened.state().born();
+            let door = opened.leave();
+            born == 1 && door.seen() == 1 && door.shuts() == 0
+        }
+        Err(_) => false,
+    }
+}
+
+// The first event is made, and both readers learn of it.
+fn tell_both<R: Wait + Abort>(
+    rt: &R,
+    alloc: Global,
+    writer: &mut BoardWriter,
+    one: &mut BoardReader,
+    other: &mut BoardReader,
+) -> Result<(), Fail>
+    requires one { one.old.copies ≡ writer.old.copies }
+    requires other { other.old.copies ≡ writer.old.copies }
+    requires list { writer.old.list ≡ [] }
+{
+    writer.apply(rt, &entry_at(alloc, 1)?)?;
+    let note = writer.tell();
+    one.learn(&note);
+    other.learn(&note);
+    assert!(rt; note.entry() == 1 && writer.count() == 1);
+    Ok(())
+}
+
+// There are two readers; the one asks, and the other sees the state.
 fn first_steps<R: Wait + Abort>(
     rt: &R,
     alloc: Global,
@@ -127,24 +167,9 @@ fn first_steps<R: Wait + Abort>(
     let mut one = readers.take().unwrap();
     let mut other = readers.take().unwrap();
     assert!(rt; readers.take().is_none());
-    writer.apply(rt, &entry_at(alloc, 1)?)?;
-    let note = writer.tell();
-    assert_eq!(rt; (note.entry(), writer.count()), (1, 1));
-    one.learn(&note);
-    other.learn(&note);
-    let pairs = pairs_of(alloc, &[(1, 1)])?;
-    let told = one.query(&pairs)?;
-    assert_eq!(rt;
-        (told.entry, told.answers.as_slice()),
-        (1, [Answer::Same].as_slice())
-    );
-    assert_eq!(rt; (one.seen(), other.seen(), one.shuts()), (1, 1, 0));
-    let Ok(opened) = other.into_door().enter() else {
-        return Err("the door is shut".into());
-    };
-    let born = opened.state().born();
-    let door = opened.leave();
-    assert_eq!(rt; (born, door.seen(), door.shuts()), (1, 1, 0));
+    tell_both(rt, alloc, writer, &mut one, &mut other)?;
+    assert!(rt; is_told(alloc, &mut one)?);
+    assert!(rt; sees_one(other));
     Ok(())
 }
 
@@ -163,9 +188,20 @@ fn who_comes_after_the_writer_is_shut_out(rt: HostRuntime) -> Result<(), Fail> {
     writer.end(&rt);
     let mut reader = reader.ok_or("a reader")?;
     let pairs = pairs_of(rt.alloc(), &[(1, 1)])?;
-    assert_eq!(rt; reader.query(&pairs).err(), Some(QueryStop::Shut));
-    assert_eq!(rt; (reader.seen(), reader.shuts()), (0, 1));
+    assert!(rt; reader.query(&pairs).err() == Some(QueryStop::Shut));
+    assert!(rt; reader.seen() == 0 && reader.shuts() == 1);
     Ok(())
+}
+
+// Whether these are the answers after thirty entries.
+fn are_of_thirty(told: &Told) -> bool {
+    let answers = [
+        Answer::Before,
+        Answer::After,
+        Answer::Concurrent,
+        Answer::Unknown,
+    ];
+    told.entry == 30 && told.answers.as_slice() == answers.as_slice()
 }
 
 // Thirty entries are written beside a reader.
@@ -182,18 +218,9 @@ fn thirty<R: Threads + Wait + Abort + Sync>(
     let mut reader = readers.take().unwrap();
     let entries = entries(alloc, 30)?;
     let pairs = pairs_of(alloc, &[(19, 20), (20, 19), (1, 20), (1, 21)])?;
-    assert_eq!(rt; entries.len(), 30);
+    assert!(rt; entries.len() == 30);
     let told = write_and_ask(rt, writer, &mut reader, &entries, &pairs)?;
-    let answers = [
-        Answer::Before,
-        Answer::After,
-        Answer::Concurrent,
-        Answer::Unknown,
-    ];
-    assert_eq!(rt;
-        (told.entry, told.answers.as_slice()),
-        (30, answers.as_slice())
-    );
+    assert!(rt; are_of_thirty(&told));
     Ok(())
 }
 

@@ -1,11 +1,11 @@
-//! A reader that asks while the writer publishes ten thousand entries.
+//! Two readers that ask while the writer publishes ten thousand entries.
 
 ghost use Rattle.std.specs.Prelude.{◌≡◌, ◌+◌, ◌^◌, ◌<◌, [], length};
 
 use super::tests::{entries, pairs_of, write};
 use super::*;
 use crate::asking::told;
-use kr_order::{Asked, Entry, NoMemory, Told};
+use kr_order::{Asked, Entry, NoMemory, PushStop, Told};
 use order_state::State;
 use reach::Scratch;
 use std::alloc::Global;
@@ -19,6 +19,9 @@ const ENTRIES: u64 = 10_000;
 
 // A reader asks no more often than this, so that it ends where the writer found no memory.
 const MOST_ASKED: u64 = 200_000_000;
+
+// And another one no more often than this.
+const FEW_ASKED: u64 = 1_000;
 
 // The first answer of each entry that a reader was told of, and whether none was of an earlier entry than the one before.
 #[derive(Drop)]
@@ -44,14 +47,19 @@ impl Followed {
     }
 }
 
-// Asks these pairs until it is told of the last entry.
-fn follow(alloc: Global, reader: &mut BoardReader, pairs: &Asked) -> Result<Followed, QueryStop> {
+// Asks these pairs until it is told of the last entry, or so often.
+fn follow(
+    alloc: Global,
+    reader: &mut BoardReader,
+    pairs: &Asked,
+    times: u64,
+) -> Result<Followed, QueryStop> {
     let mut followed = Followed {
         told: Vec::new(alloc),
         newest: 0,
         rises: true,
     };
-    for _ in 0..MOST_ASKED {
+    for _ in 0..times {
         followed.take(reader.query(pairs)?)?;
         if followed.newest >= ENTRIES {
             break;
@@ -93,28 +101,64 @@ fn are_plain(
     Ok(same)
 }
 
-// These entries are written while another thread asks these pairs.
-fn beside<R: Threads + Wait + Abort + Sync>(
+// Whether the reader was told of no entry before one that it was told of, and as a plain state tells.
+fn is_right(
+    alloc: Global,
+    followed: &Followed,
+    entries: &[Entry],
+    pairs: &Asked,
+) -> Result<bool, NoMemory> {
+    let plain = are_plain(alloc, followed, entries, pairs)?;
+    Ok(plain && followed.rises)
+}
+
+// What a reader was told of, or why it was not.
+type Answered = Result<Followed, QueryStop>;
+
+// Both readers ask these pairs at the same time.
+fn follow_both<R: Threads + Sync>(
+    rt: &R,
+    alloc: Global,
+    one: &mut BoardReader,
+    other: &mut BoardReader,
+    pairs: &Asked,
+) -> (Answered, Answered) {
+    join_mut(
+        rt,
+        &mut || follow(alloc, one, pairs, MOST_ASKED),
+        &mut || follow(alloc, other, pairs, FEW_ASKED),
+    )
+}
+
+// These entries are written while other threads ask these pairs.
+fn beside<R: Threads + Wait + Sync>(
     rt: &R,
     alloc: Global,
     writer: &mut BoardWriter,
-    reader: &mut BoardReader,
+    one: &mut BoardReader,
+    other: &mut BoardReader,
     entries: &[Entry],
     pairs: &Asked,
-) -> Result<(), Fail>
+) -> Result<(Followed, Followed), QueryStop>
     requires { length writer.old.list + length entries.now < 2 ^ 58 }
 {
     let (written, followed) = join_mut(
         rt,
         &mut || write(rt, writer, entries),
-        &mut || follow(alloc, reader, pairs),
+        &mut || follow_both(rt, alloc, one, other, pairs),
     );
-    written?;
-    let followed = followed?;
-    assert!(rt; followed.rises);
-    assert_eq!(rt; followed.newest, ENTRIES);
-    assert!(rt; are_plain(alloc, &followed, entries, pairs)?);
-    Ok(())
+    let Ok(()) = written else {
+        return Err(QueryStop::NoMemory);
+    };
+    Ok((followed.0?, followed.1?))
+}
+
+// The pairs that are asked.
+fn asked(alloc: Global) -> Result<Asked, PushStop> {
+    pairs_of(
+        alloc,
+        &[(1, 2), (1, 1000), (999, 1000), (3334, 3333), (6665, 6666)],
+    )
 }
 
 // Ten thousand entries.
@@ -122,26 +166,32 @@ fn ten_thousand<R: Threads + Wait + Abort + Sync>(
     rt: &R,
     alloc: Global,
     writer: &mut BoardWriter,
-    reader: &mut BoardReader,
+    one: &mut BoardReader,
+    other: &mut BoardReader,
 ) -> Result<(), Fail>
     requires { writer.old.list ≡ [] }
 {
     let entries = entries(alloc, ENTRIES)?;
-    let pairs = pairs_of(
-        alloc,
-        &[(1, 2), (1, 1000), (999, 1000), (3334, 3333), (6665, 6666)],
-    )?;
+    let pairs = asked(alloc)?;
     assert!(rt; entries.len() == ENTRIES as usize);
-    beside(rt, alloc, writer, reader, entries.as_slice(), &pairs)
+    let both = beside(rt, alloc, writer, one, other, entries.as_slice(), &pairs)?;
+    assert!(rt; both.0.newest == ENTRIES);
+    assert!(rt; is_right(alloc, &both.0, &entries, &pairs)?);
+    assert!(rt; is_right(alloc, &both.1, &entries, &pairs)?);
+    Ok(())
 }
 
 #[test]
 fn each_answer_is_that_of_a_plain_state(rt: HostRuntime) -> Result<(), Fail> {
-    let (mut writer, mut readers) = two_copies(&rt, rt.alloc(), 1)?;
-    let mut reader = readers.take();
-    let run = match &mut reader {
-        Some(reader) => ten_thousand(&rt, rt.alloc(), &mut writer, reader),
+    let (mut writer, mut readers) = two_copies(&rt, rt.alloc(), 2)?;
+    let mut first = readers.take();
+    let mut second = readers.take();
+    let run = match &mut first {
         None => Err("no reader".into()),
+        Some(one) => match &mut second {
+            None => Err("no second reader".into()),
+            Some(other) => ten_thousand(&rt, rt.alloc(), &mut writer, one, other),
+        },
     };
     writer.end(&rt);
     run

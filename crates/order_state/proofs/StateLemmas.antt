@@ -122,28 +122,6 @@ IsDecision-batch history order command batch decision stands is decided =
       adds = adds-whole history order batch (adds_of decision.plan) stands decided.adds;
     })
 
--- what an acquire is to do
-pub IsDecision-acquire : (history : List Entry) (order : Ordered) (command : Command) (event : EventId) (reply : Reply) →
-    IsOrderOf history order → command ≡ Acquire event →
-    reply ≡ count_reply (count_of order.counts event.0) (count_of order.counts event.0 + 1) →
-    IsDecision (agreed_of history) command (record { reply = reply; plan = None })
-IsDecision-acquire history order command event reply stands is told =
-    subst (λ c. IsDecision (agreed_of history) c (record { reply = reply; plan = None })) (sym is) (record {
-      reply = told ∙ ap (λ n. count_reply n (n + 1)) (stands.count event.0);
-      adds = sym (append-nil (pairs_of history));
-    })
-
--- what a release is to do
-pub IsDecision-release : (history : List Entry) (order : Ordered) (command : Command) (event : EventId) (reply : Reply) →
-    IsOrderOf history order → command ≡ Release event →
-    reply ≡ count_reply (count_of order.counts event.0) (count_of order.counts event.0 - 1) →
-    IsDecision (agreed_of history) command (record { reply = reply; plan = None })
-IsDecision-release history order command event reply stands is told =
-    subst (λ c. IsDecision (agreed_of history) c (record { reply = reply; plan = None })) (sym is) (record {
-      reply = told ∙ ap (λ n. count_reply n (n - 1)) (stands.count event.0);
-      adds = sym (append-nil (pairs_of history));
-    })
-
 -- what is prepared of a decision is ready
 pub IsReady-decided :
     (standing : Standing) (before : List Entry) (entry : Entry) (decision : Decision) (place : ℕ) (reply : Reply) →

@@ -13,15 +13,9 @@
 #![tactic(auto)]
 
 mod board;
-#[cfg(test)]
-mod compared;
 mod kept;
 mod order;
-#[cfg(test)]
-mod plain;
 mod state;
-#[cfg(test)]
-mod tests;
 
 pub use board::{Board, PlainBoard};
 pub use kept::{Kept, Prepared};

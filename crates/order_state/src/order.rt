@@ -5,7 +5,9 @@
 //! take without memory.
 
 ghost use Rattle.std.specs.Prelude.{◌≡◌, ◌+◌, ◌-◌, ◌*◌, ◌^◌, ◌<◌, ◌≤◌, ◌++◌, [], length, IfOk, IfErr, OnOk, OnErr};
-ghost use Rattle.kr_order.specs.declared.history.Command.TheVariants.{Create as CreateCommand, Assign as AssignCommand, Acquire as AcquireCommand, Release as ReleaseCommand};
+ghost use Rattle.kr_order.specs.declared.history.Command.TheVariants.{Create as CreateCommand, Assign as AssignCommand};
+ghost use Rattle.kr_order.specs.declared.history.Command.TheVariants.{Acquire as AcquireCommand};
+ghost use Rattle.kr_order.specs.declared.history.Command.TheVariants.{Release as ReleaseCommand};
 ghost use Rattle.kr_order.specs.History.{births_of};
 ghost use Rattle.kr_order.specs.Agreed.{both_live, pairs_after};
 ghost use Rattle.kr_order.specs.Reply.{count_reply};

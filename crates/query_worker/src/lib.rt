@@ -4,8 +4,6 @@
 //! thread gives them. Within one call each pair of events is searched for once, however often it is asked.
 #![tactic(auto)]
 
-#[cfg(test)]
-mod tests;
 mod worker;
 
 pub use worker::{MOST_WORKERS, answer_all};

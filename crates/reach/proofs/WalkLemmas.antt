@@ -40,9 +40,6 @@ reach_on order a x y from on =
       | inr path ↦ reach-trans order a x y path on
     ]
 
-pub LeadsTo-refl : (pairs : List (ℕ × ℕ)) (found : List ℕ) → LeadsTo pairs found found
-LeadsTo-refl pairs found = record { from = λ order a said behind. behind }
-
 -- the successors of an event that was found
 pub LeadsTo-outs : (pairs : List (ℕ × ℕ)) (old found : List ℕ) (x : ℕ) → is_in found x ≡ true → LeadsTo pairs old found → LeadsTo pairs old (with_all found (outs_of pairs x))
 LeadsTo-outs pairs old found x there so_far =

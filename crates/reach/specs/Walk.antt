@@ -1,5 +1,6 @@
 -- What a search has come to: the events that it has found, and what is known of the pairs that it has looked at.
-use Rattle.std.specs.Prelude.{◌≡◌, ◌+◌, ℕ, true, false, ◌||◌, ◌==◌, if◌then◌else◌, Option, IsSome, unwrap_or, List, length, map, nat_eq, sum_by, take}
+use Rattle.std.specs.Prelude.{◌≡◌, ◌+◌, ℕ, true, false, ◌||◌, ◌==◌, if◌then◌else◌, Option, IsSome, unwrap_or, List, length, map, nat_eq}
+use Rattle.std.specs.Prelude.{sum_by, take}
 use Rattle.std.specs.List.{All, IsDistinct}
 use Rattle.kr_order.specs.Order.{reach}
 use Rattle.dep_graph.specs.GraphView.{GraphView, event_at, outs_of}

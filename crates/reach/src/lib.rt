@@ -9,8 +9,6 @@ mod found;
 mod pairs;
 mod scratch;
 mod search;
-#[cfg(test)]
-mod tests;
 
 pub use asks::Asks;
 pub use scratch::Scratch;

@@ -43,7 +43,7 @@ pub fn follow<L: Ledger>(
     ensures most { steps.new ≤ steps.old + length (outs_at graph.now cell) }
     ensures each { result ≡ false → steps.new ≡ steps.old + length (outs_at graph.now cell) }
 {
-    graph.known();
+    graph.recall_graph();
     for out in graph.outs_at(cell) {
         steps.tick(); // a pair is looked at
         if out.event.0 == goal.0 {
@@ -67,7 +67,7 @@ fn follow_pair(graph: &Graph, pair: &(EventId, EventId), found: &mut Found, goal
     ensures placed { ArePlaced graph.now.slots found.new.cells }
     ensures room { found.new.room ≡ found.old.room }
 {
-    graph.known();
+    graph.recall_graph();
     let first = cell_of(graph, pair.0);
     if !found.has(first) {
         return false;

@@ -75,7 +75,7 @@ fn has_path<L: Ledger>(
         ≤ steps.old + (length graph.now.vertices * (1 + length extra.now) + length graph.now.pairs) }
     ensures room { found.new.room ≡ found.old.room }
 {
-    graph.known();
+    graph.recall_graph();
     found.clear();
     found.add(cell_of(graph, a));
     let mut next = 0;

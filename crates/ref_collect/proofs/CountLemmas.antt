@@ -94,20 +94,3 @@ All-with P counts id number changed all = All-from_recursion P (with_number coun
     each : (counts : List (ℕ × ℕ)) → AllByRecursion P counts → AllByRecursion P (with_number counts id number)
     each [] all = tt
     each (entry ∷ more) all = (one entry (eqb entry.0 id) refl all.0, each more all.1)
-
--- the count after one more reference, and after one fewer
-pub acquired_or_not : (event id old now : ℕ) (live : 0 < now) → (event ≡ id → old ≡ now) → cond (eqb event id) (now + 1) old ≡ cond (eqb event id && ltb 0 old) (old + 1) old
-acquired_or_not event id old now live same = one (eqb event id) refl
-  where
-    one : (is : Bool) → eqb event id ≡ is → cond is (now + 1) old ≡ cond (is && ltb 0 old) (old + 1) old
-    one true is =
-        let now_is = same (eqb-true event id is) in
-        sym (ap (λ t. cond t (old + 1) old) (lt-ltb 0 old (omega (arith, live, now_is))) ∙ ap (λ n. n + 1) now_is)
-    one false is = refl
-
-pub released_or_not : (event id old now : ℕ) → (event ≡ id → old ≡ now) → cond (eqb event id) (now - 1) old ≡ cond (eqb event id) (old - 1) old
-released_or_not event id old now same = one (eqb event id) refl
-  where
-    one : (is : Bool) → eqb event id ≡ is → cond is (now - 1) old ≡ cond is (old - 1) old
-    one true is = ap (λ n. n - 1) (sym (same (eqb-true event id is)))
-    one false is = refl

@@ -110,10 +110,3 @@ needs_the_same counts pairs vertices gone dead source =
   where
     fails : is_needed counts pairs vertices gone ≡ false
     fails = is_needed-gone counts pairs vertices gone dead source
-
-pub NeedsTheSame-refl : (counts pairs : List (ℕ × ℕ)) (vertices : List ℕ) → NeedsTheSame counts pairs vertices pairs vertices
-NeedsTheSame-refl counts pairs vertices = record { events = refl; pairs = refl }
-
-pub NeedsTheSame-trans : (counts old_pairs : List (ℕ × ℕ)) (old_vertices : List ℕ) (pairs : List (ℕ × ℕ)) (vertices : List ℕ) (new_pairs : List (ℕ × ℕ)) (new_vertices : List ℕ) → NeedsTheSame counts old_pairs old_vertices pairs vertices → NeedsTheSame counts pairs vertices new_pairs new_vertices → NeedsTheSame counts old_pairs old_vertices new_pairs new_vertices
-NeedsTheSame-trans counts old_pairs old_vertices pairs vertices new_pairs new_vertices first second =
-    record { events = second.events ∙ first.events; pairs = second.pairs ∙ first.pairs }

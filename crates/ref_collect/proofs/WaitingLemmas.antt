@@ -69,9 +69,6 @@ pub last_apart : (counts pairs : List (ℕ × ℕ)) (vertices waiting : List ℕ
 last_apart counts pairs vertices waiting event is =
     is_held-none waiting event (λ k d below same. is.distinct k (length waiting) d below (omega (arith, length-append waiting (event ∷ []))) (get_or_append_left waiting (event ∷ []) d k below ∙ same ∙ sym (get_or_push waiting event d (length waiting) refl)))
 
-pub last_held : (counts pairs : List (ℕ × ℕ)) (vertices waiting : List ℕ) (event : ℕ) → AreWaiting counts pairs vertices (waiting ++ event ∷ []) → is_held vertices event ≡ true
-last_held counts pairs vertices waiting event is = last (λ e. is_held vertices e ≡ true) waiting event is.held
-
 pub last_source : (counts pairs : List (ℕ × ℕ)) (vertices waiting : List ℕ) (event : ℕ) → AreWaiting counts pairs vertices (waiting ++ event ∷ []) → ins_of pairs event ≡ 0
 last_source counts pairs vertices waiting event is = last (λ e. ins_of pairs e ≡ 0) waiting event is.sources
 
@@ -184,24 +181,6 @@ AreWaiting-gone counts pairs vertices waiting gone is distinct held =
           ]
           | inr had ↦ inr (both ∙ or_right (is_held waiting event) (is_held bared event) (lost event source had))
         ]
-
--- none waits
-pub AreKept-none : (counts pairs : List (ℕ × ℕ)) (vertices : List ℕ) → AreWaiting counts pairs vertices [] → AreKept counts pairs vertices
-AreKept-none counts pairs vertices is event held source =
-    elim (is.all event held source) [ inl live ↦ live | inr waits ↦ absurd (both_ways false refl waits) ]
-
--- one event waits, or none where that one has a predecessor
-pub AreWaiting-one : (counts pairs : List (ℕ × ℕ)) (vertices : List ℕ) (from : ℕ) → AreKeptBut counts pairs vertices from → is_held vertices from ≡ true → ins_of pairs from ≡ 0 → AreWaiting counts pairs vertices (from ∷ [])
-AreWaiting-one counts pairs vertices from kept held source =
-    record {
-      all = λ event there none. elim (cases_eq event from) [
-        | inl same ↦ inr (or_left (eqb from event) false (eq-eqb from event (sym same)))
-        | inr other ↦ inl (kept event there (ne_eqb event from other) none)
-      ];
-      held = All-from_recursion (λ event. is_held vertices event ≡ true) (from ∷ []) (held, tt);
-      sources = All-from_recursion (λ event. ins_of pairs event ≡ 0) (from ∷ []) (source, tt);
-      distinct = λ i j d less below. absurd (omega arith);
-    }
 
 pub AreWaiting-none : (counts pairs : List (ℕ × ℕ)) (vertices : List ℕ) (from : ℕ) → AreKeptBut counts pairs vertices from → (ins_of pairs from ≡ 0 → ⊥) → AreWaiting counts pairs vertices []
 AreWaiting-none counts pairs vertices from kept some =

@@ -32,12 +32,14 @@ AreKept counts pairs vertices =
 
 -- each held event without a predecessor is live or waits, and no other event waits, nor one twice
 pub record AreWaiting (counts pairs : List (ℕ × ℕ)) (vertices waiting : List ℕ) : Type 0 where
-  pub all : (event : ℕ) → is_held vertices event ≡ true → ins_of pairs event ≡ 0 → (0 < count_of counts event) ⊎ (is_held waiting event ≡ true)
+  pub all : (event : ℕ) → is_held vertices event ≡ true → ins_of pairs event ≡ 0 → (0 < count_of counts event)
+      ⊎ (is_held waiting event ≡ true)
   pub held : All (λ event. is_held vertices event ≡ true) waiting
   pub sources : All (λ event. ins_of pairs event ≡ 0) waiting
   pub distinct : AllPairs (λ a b. a ≡ b → ⊥) waiting
 
 -- the same events and pairs are needed
-pub record NeedsTheSame (counts old_pairs : List (ℕ × ℕ)) (old_vertices : List ℕ) (new_pairs : List (ℕ × ℕ)) (vertices : List ℕ) : Type 0 where
+pub record NeedsTheSame (counts old_pairs : List (ℕ × ℕ)) (old_vertices : List ℕ) (new_pairs : List (ℕ × ℕ)) (vertices : List ℕ)
+    : Type 0 where
   pub events : needed_events counts new_pairs vertices ≡ needed_events counts old_pairs old_vertices
   pub pairs : needed_pairs counts new_pairs vertices ≡ needed_pairs counts old_pairs old_vertices

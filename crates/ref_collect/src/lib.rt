@@ -9,8 +9,6 @@
 
 mod refs;
 mod removal;
-#[cfg(test)]
-mod tests;
 
 pub use refs::Refs;
 pub use removal::collect;

@@ -1,6 +1,7 @@
 //! The references: the live events, in rising order, each with its count.
 
-ghost use Rattle.std.specs.Prelude.{◌≡◌, ◌<◌, ◌≤◌, ◌+◌, ◌-◌, ◌^◌, ◌==◌, ◌&&◌, nat_lt, ℕ, if◌then◌else◌, [], ◌∷◌, ◌++◌, map, OnOk, Some, None, IfNone};
+ghost use Rattle.std.specs.Prelude.{◌≡◌, ◌<◌, ◌≤◌, ◌+◌, ◌-◌, ◌^◌, ◌==◌, ◌&&◌, nat_lt, ℕ, if◌then◌else◌, [], ◌∷◌, ◌++◌, map, OnOk, Some};
+ghost use Rattle.std.specs.Prelude.{None, IfNone};
 ghost use Rattle.std.specs.List.{All};
 ghost use Rattle.ref_collect.specs.Counts.{count_of, AreRising};
 
@@ -88,7 +89,9 @@ impl Refs {
     pub fn acquire(&mut self, id: EventId) -> Option<u64>
         requires { count_of self.old.counts id.0 + 1 < 2 ^ 64 }
         ensures value { result ≡ (if nat_lt 0 (count_of self.old.counts id.0) then Some (count_of self.old.counts id.0 + 1) else None) }
-        ensures count { (event : ℕ) → count_of self.new.counts event ≡ (if event == id.0 && nat_lt 0 (count_of self.old.counts event) then count_of self.old.counts event + 1 else count_of self.old.counts event) }
+        ensures count { (event : ℕ) → count_of self.new.counts event
+            ≡ (if event == id.0 && nat_lt 0 (count_of self.old.counts event) then count_of self.old.counts event + 1
+            else count_of self.old.counts event) }
         ensures events { map (λ entry. entry.0) self.new.counts ≡ map (λ entry. entry.0) self.old.counts }
         ensures none { IfNone result (self.new ≡ self.old) }
         ensures spare { self.new.spare ≡ self.old.spare }
@@ -105,7 +108,8 @@ impl Refs {
     /// nothing changes. An event that has no reference left is dead for good. It takes no memory.
     pub fn release(&mut self, id: EventId) -> Option<u64>
         ensures value { result ≡ (if nat_lt 0 (count_of self.old.counts id.0) then Some (count_of self.old.counts id.0 - 1) else None) }
-        ensures count { (event : ℕ) → count_of self.new.counts event ≡ (if event == id.0 then count_of self.old.counts event - 1 else count_of self.old.counts event) }
+        ensures count { (event : ℕ) → count_of self.new.counts event
+            ≡ (if event == id.0 then count_of self.old.counts event - 1 else count_of self.old.counts event) }
         ensures below { (n : ℕ) → All (λ entry. entry.0 < n) self.old.counts → All (λ entry. entry.0 < n) self.new.counts }
         ensures none { IfNone result (self.new ≡ self.old) }
         ensures spare { self.new.spare ≡ self.old.spare }
@@ -115,11 +119,11 @@ impl Refs {
         Some(left)
     }
 
-    /// What holds of all references. It does nothing.
-    pub fn known(&self)
+    /// A proof step, which does nothing when it runs: the events rise, and each has a reference.
+    pub fn recall_counts(&self)
         ensures rising { AreRising self.now.counts }
         ensures live { All (λ entry. 0 < entry.1) self.now.counts }
     {
-        self.counts.known();
+        self.counts.recall_rising();
     }
 }

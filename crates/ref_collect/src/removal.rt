@@ -19,10 +19,10 @@ fn remove_dead(graph: &mut Graph, refs: &Refs, id: EventId)
     ensures spare_vertices { graph.old.spare_vertices ≤ graph.new.spare_vertices }
     ensures spare_pairs { graph.old.spare_pairs ≤ graph.new.spare_pairs }
 {
-    graph.known();
+    graph.recall_graph();
     if refs.count(id) == 0 {
         graph.remove_source(id);
-        graph.known();
+        graph.recall_graph();
     }
 }
 
@@ -76,6 +76,6 @@ pub fn collect(graph: &mut Graph, refs: &Refs, from: EventId) -> u64
     let held = graph.held();
     remove_if_idle(graph, refs, from);
     remove_bare(graph, refs);
-    graph.known();
+    graph.recall_graph();
     held - graph.held()
 }

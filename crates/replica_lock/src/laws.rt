@@ -1,7 +1,8 @@
 //! Laws of the rule behind a turn, of any values. Each function does nothing: its contract is the law, whose proof is
 //! checked with it. The first six are the kinds of step that a turn's calls make, each with what it asks.
 
-ghost use Rattle.replica_lock.specs.Kinds.{TakingKeepsTheRule, CountingKeepsTheRule, GivingKeepsTheRule, LookingKeepsTheRule, SplittingKeepsTheRule, JoiningKeepsTheRule, OneSeatHoldsTheTurn, TheHistoryIsShort};
+ghost use Rattle.replica_lock.specs.Kinds.{TakingKeepsTheRule, CountingKeepsTheRule, GivingKeepsTheRule, LookingKeepsTheRule};
+ghost use Rattle.replica_lock.specs.Kinds.{SplittingKeepsTheRule, JoiningKeepsTheRule, OneSeatHoldsTheTurn, TheHistoryIsShort};
 
 use crate::Held;
 

@@ -1,5 +1,5 @@
 -- Each packet of a run is read again of its spelling.
-use Rattle.std.proofs.Common.{zero, suc, ◌≡◌, ℕ, ◌+◌, ◌-◌, ◌^◌, ◌<◌, ◌≤◌, Bool, true, false, cond, List, [], ◌∷◌, ◌++◌, length, subst, arith}
+use Rattle.std.proofs.Common.{zero, suc, ◌≡◌, ℕ, ◌+◌, ◌-◌, ◌^◌, ◌≤◌, Bool, true, false, cond, List, [], ◌∷◌, ◌++◌, length, subst, arith}
 use Rattle.std.specs.Prelude.{Some, slice_get, All}
 use Rattle.std.proofs.lemmas.List.Elements.{All-head, All-tail, All-weaker}
 use Rattle.std.proofs.lemmas.Option.{none-some, same_Some}
@@ -12,11 +12,11 @@ use Rattle.kr_world.specs.Step.{is_full, step}
 use Rattle.kr_world.specs.Round.{after_all, round_events, plain_events, after_line, steps_of}
 use Rattle.kr_world.specs.Run.{Turn, run_from}
 use Rattle.kr_world.specs.Sound.{HaveBegun}
-use Rattle.kr_world.proofs.SoundLemmas.{worlds_sound}
-use Rattle.kr_world.proofs.CountLemmas.{AsksNothing, queries_kept, queries_counted, none_begun}
-use Rattle.kr_world.proofs.RoundShapeLemmas.{rounds_ask_nothing}
-use Rattle.kr_world.proofs.RoundCountLemmas.{line_counted}
-use Rattle.kr_world.proofs.RoundEventLemmas.{script_fits}
+use Rattle.kr_world.proofs.sound.SoundLemmas.{worlds_sound}
+use Rattle.kr_world.proofs.steps.CountLemmas.{AsksNothing, queries_kept, queries_counted, none_begun}
+use Rattle.kr_world.proofs.rounds.RoundShapeLemmas.{rounds_ask_nothing}
+use Rattle.kr_world.proofs.rounds.RoundCountLemmas.{line_counted}
+use Rattle.kr_world.proofs.rounds.RoundEventLemmas.{script_fits}
 use Rattle.kr_wire.specs.Valid.{IsPacket}
 use Rattle.kr_wire.proofs.DecodeLemmas.{packet_in_again}
 use Rattle.wire_fit.specs.Spoken.{IsSpoken}

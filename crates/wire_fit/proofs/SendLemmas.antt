@@ -3,7 +3,7 @@ use Rattle.std.proofs.Common.{◌≡◌, ℕ, ◌+◌, ◌≤◌, Bool, true, fa
 use Rattle.std.specs.Prelude.{Option, None, Some, All}
 use Rattle.std.proofs.lemmas.Bool.{ltb-true}
 use Rattle.std.proofs.lemmas.List.{length-take, length-drop, length-map}
-use Rattle.std.proofs.lemmas.List.Elements.{All-nil, All-cons, All-head, All-tail, All-map, All-take, All-drop, All-weaker, All-contains}
+use Rattle.std.proofs.lemmas.List.Elements.{All-nil, All-cons, All-map, All-take, All-drop, All-weaker, All-contains}
 use Rattle.kr_order.specs.declared.ids.ClientId.{ClientId}
 use Rattle.kr_order.specs.declared.ids.ServerId.{ServerId}
 use Rattle.kr_order.specs.declared.ids.EventId.{EventId}
@@ -19,8 +19,8 @@ use Rattle.kr_order.specs.Done.{done_of, last_of}
 use Rattle.kr_order.specs.Answer.{partial, answer_to, answers_after}
 use Rattle.kr_order.specs.View.{next_of, prev_of}
 use Rattle.kr_protocol.specs.Manager.{announces, named_by, view_packet}
-use Rattle.kr_protocol.specs.Server.{Server, acknowledged, is_at_tail, is_among, is_for_tail, next, prev, lasts, newly_applied, window_of, window, ack_of, ack_to, ack, reply_packet, joined_packet, refer_packet, answers_of, answer_packet, worked_in, work_packet}
-use Rattle.kr_world.proofs.SendLemmas.{lasts_all, last_among}
+use Rattle.kr_protocol.specs.Server.{Server, acknowledged, is_at_tail, is_for_tail, next, prev, lasts, newly_applied, window_of, window, ack_of, ack_to, ack, reply_packet, joined_packet, refer_packet, told_by, answer_packet, worked_in, work_packet}
+use Rattle.kr_world.proofs.shapes.SendLemmas.{lasts_all, last_among}
 use Rattle.kr_wire.specs.Valid.{IsId, IsEntry, IsView, IsPacket}
 use Rattle.wire_fit.specs.Spoken.{IsSpokenQuery, IsSpokenOpen}
 use Rattle.wire_fit.proofs.ViewLemmas.{IsServerId, IfServer, named_fit, next_fits, prev_fits, viewed_fits}
@@ -143,7 +143,8 @@ refer_packet_fits server view query fits view_fits query_fits =
     }
 
 -- answers: one for each pair
-answers_long : (server : Server) (pairs : List (EventId × EventId)) → length (answers_of server pairs) ≡ length pairs
+answers_long : (server : Server) (pairs : List (EventId × EventId))
+    → length (told_by (is_at_tail server) (answers_after (acknowledged server) pairs)) ≡ length pairs
 answers_long server pairs = by_test (is_at_tail server)
   where
     all : List Answer

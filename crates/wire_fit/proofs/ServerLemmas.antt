@@ -16,7 +16,7 @@ use Rattle.kr_order.specs.declared.message.Packet.{Packet}
 use Rattle.kr_order.specs.declared.view.View.{View}
 use Rattle.kr_order.specs.Done.{done_of, last_of}
 use Rattle.kr_protocol.specs.Reaction.{Reaction, ignored}
-use Rattle.kr_protocol.specs.Server.{Server, most_waiting, sends, follows, acknowledged, is_at_tail, is_member, is_server, is_for_tail, next, prev, behind, lasts, newly_applied, advances, appended, advances_at_tail, window, ack_to, ack, reply_packet, joined_packet, refer_packet, settles, enters, may_enter, enters_new, requested, after_request, missing, passes_on, takes_entries, after_append, acknowledges, feeds, tells_joined, hears, after_ack, server_ticks, viewing, may_adopt, adopts, after_view, waits, asked_in, after_ask, from_client, from_server, from_manager, taken_from, server_takes, work_packet, server_works}
+use Rattle.kr_protocol.specs.Server.{Server, most_waiting, sends, follows, acknowledged, is_at_tail, is_member, is_server, is_for_tail, next, prev, behind, lasts, newly_applied, advances, appended, advances_at_tail, window, ack_to, ack, reply_packet, joined_packet, refer_packet, commits_or_passes_on, enters, may_enter, enters_new, requested, after_request, missing, passes_on, takes_entries, after_append, acknowledges, feeds, tells_joined, hears, after_ack, server_ticks, viewing, may_adopt, adopts, after_view, waits, asked_in, after_ask, from_client, from_server, from_manager, taken_from, server_takes, work_packet, server_works}
 use Rattle.kr_wire.specs.Valid.{IsEntry, IsView, IsPacket, IsMessage, IsAppend, IsOf, sender_of}
 use Rattle.wire_fit.specs.Spoken.{IsSpokenQuery, IsSpokenOpen}
 use Rattle.wire_fit.proofs.ViewLemmas.{IsServerId}
@@ -60,8 +60,8 @@ advances_at_tail_fits server fits = by_test (is_at_tail server)
     by_test true = advances_fit server (length server.log) fits.long fits
     by_test false = sends_fit server [] fits none_fits
 
-settles_fit : (server : Server) → IsFit server → IsFitReaction (settles server)
-settles_fit server fits = by_test (is_at_tail server)
+commits_or_passes_on_fit : (server : Server) → IsFit server → IsFitReaction (commits_or_passes_on server)
+commits_or_passes_on_fit server fits = by_test (is_at_tail server)
   where
     by_test : (tail : Bool) → IsFitReaction (cond tail (advances server (length server.log)) (sends server (window server)))
     by_test true = advances_fit server (length server.log) fits.long fits
@@ -92,7 +92,7 @@ enters_new_fits server entry fits room fit = by_test (may_enter server entry)
   where
     by_test : (may : Bool) → IsFitReaction (cond may (enters server entry) (ignored server))
     by_test true =
-        settles_fit (appended server (entry ∷ []))
+        commits_or_passes_on_fit (appended server (entry ∷ []))
         (appended_fits server (entry ∷ []) fits room (All-cons IsEntry entry [] fit (All-nil IsEntry)) (omega arith))
     by_test false = ignored_fits server fits
 

@@ -15,9 +15,9 @@ use Rattle.kr_world.specs.declared.refusal.Refusal.{Refusal}
 use Rattle.kr_world.specs.World.{World, first_world, is_stopped}
 use Rattle.kr_world.specs.Step.{refusal_of, act, unless, step}
 use Rattle.kr_world.specs.Sound.{IsSound, HaveBegun}
-use Rattle.kr_world.proofs.ListFacts.{all_of}
-use Rattle.kr_world.proofs.SoundLemmas.{worlds_sound}
-use Rattle.kr_world.proofs.ViewLemmas.{made_at}
+use Rattle.kr_world.proofs.steps.ListFacts.{all_of}
+use Rattle.kr_world.proofs.sound.SoundLemmas.{worlds_sound}
+use Rattle.kr_world.proofs.chain.ViewLemmas.{made_at}
 use Rattle.kr_wire.specs.Valid.{IsEntry, IsView, IsPacket}
 use Rattle.wire_fit.specs.Spoken.{IsSpokenQuery, IsSpokenServer, IsSpokenClient, IsSpoken, WorldsAreSpoken}
 use Rattle.wire_fit.proofs.ViewLemmas.{current_fits, views_fit}

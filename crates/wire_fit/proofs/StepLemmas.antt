@@ -23,11 +23,12 @@ use Rattle.kr_protocol.specs.Client.{Client, Hearing, begins, asks, retries, lea
 use Rattle.script_lang.specs.declared.script.Event.{Event}
 use Rattle.script_lang.specs.declared.script.Event.TheVariants.{Call, Query, Retry, Deliver, Lose, Tick, Work, Stop, Notice, Show, Join, Round, Learn}
 use Rattle.script_lang.specs.Event as lines
-use Rattle.kr_world.specs.World.{World, server_at, client_at, packet_at, is_stopped, marked}
+use Rattle.kr_order.specs.Marks.{marked}
+use Rattle.kr_world.specs.World.{World, server_at, client_at, packet_at, is_stopped}
 use Rattle.kr_world.specs.Step.{quiet, client_sends, client_calls, client_retries, client_hears, client_asks, server_reacts, arrives_at_client, arrives_at_server, manager_tells, joined_at_manager, told_by_server, arrives_at_manager, arrives, delivers, works, ticks_at, ticks, notices, joins, learns_view, shows, act}
 use Rattle.kr_world.specs.Sound.{IsSound, IsViewed, HaveBegun, most_packets}
-use Rattle.kr_world.proofs.StepLemmas.{at_index}
-use Rattle.kr_world.proofs.BagLemmas.{delivered_sound}
+use Rattle.kr_world.proofs.steps.StepLemmas.{at_index}
+use Rattle.kr_world.proofs.steps.BagLemmas.{delivered_sound}
 use Rattle.kr_wire.specs.Valid.{IsId, IsNumber, IsPair, IsAskedPair, IsCommand, IsEntry, IsView, IsPacket}
 use Rattle.wire_fit.specs.Spoken.{IsSpokenQuery, IsSpokenServer, IsSpokenOpen, IsSpokenClient, IsSpoken}
 use Rattle.wire_fit.proofs.ViewLemmas.{IsServerId, current_fits, views_fit}

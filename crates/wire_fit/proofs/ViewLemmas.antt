@@ -10,13 +10,13 @@ use Rattle.kr_order.specs.declared.ids.ServerId.{ServerId}
 use Rattle.kr_order.specs.declared.view.View.{View}
 use Rattle.kr_order.specs.View.{in_chain, index_in, last_member, or_joiner, next_at, next_of, prev_at, prev_of, is_joiner}
 use Rattle.kr_protocol.specs.Manager.{Manager, views_of, named_by}
-use Rattle.kr_protocol.specs.Server.{viewed, is_server, joiner_behind}
+use Rattle.kr_protocol.specs.Server.{viewed}
 use Rattle.kr_protocol.specs.Client.{server_or_none, first_of}
 use Rattle.kr_protocol.specs.Evolves.{Evolves, IsRising}
 use Rattle.kr_protocol.proofs.NameLemmas.{member, member-at, in_chain-member}
 use Rattle.kr_protocol.proofs.NeighbourLemmas.{member_is_named}
 use Rattle.kr_protocol.proofs.TimelineLemmas.{IsListed, counting, made_by, made_now, follow, rises, listed_current, is_no_newer}
-use Rattle.kr_world.proofs.StepLemmas.{at_index}
+use Rattle.kr_world.proofs.steps.StepLemmas.{at_index}
 use Rattle.kr_wire.specs.Valid.{IsAbove, IsId, IsNumber, AreRising, last_id, IsJoiner, IsView}
 use Rattle.wire_fit.specs.Spoken.{IsSpokenOpen}
 
@@ -96,14 +96,6 @@ prev_fits view id fits = by_index (index_in view id)
     by_index None = by_test (is_joiner view.joiner id)
     by_index (Some zero) = tt
     by_index (Some (suc i)) = get_fits view.chain i (chain_fits view fits)
-
--- who joins behind
-pub behind_fits : (view : View) (id : ServerId) → IsView view → IfServer (joiner_behind view id)
-behind_fits view id fits = by_test (is_server (last_member view) id)
-  where
-    by_test : (last : Bool) → IfServer (cond last view.joiner None)
-    by_test true = joiner_fits view fits
-    by_test false = tt
 
 -- the first member and the last, which there are
 pub first_of_fits : (view : View) → IsView view → IsServerId (first_of view.chain)

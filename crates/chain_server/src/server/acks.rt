@@ -1,7 +1,7 @@
 //! Acknowledgements of the next server.
 
 ghost use Rattle.std.specs.Prelude.{◌≡◌, ◌^◌, ◌≤◌, ◌&&◌, nat_le, length, min, false, IfOk, OnOk, OnErr};
-ghost use Rattle.kr_protocol.specs.Server.{ack, sends, is_server, behind, follows, feeds, acknowledges, tells_joined, after_ack};
+ghost use Rattle.kr_protocol.specs.Server.{ack, sends, is_server, behind, feeds, acknowledges, acknowledges_and_feeds, tells_joined, hears, after_ack};
 ghost use Rattle.chain_server.specs.Calls.{Does, AddsTo};
 
 use super::Server;
@@ -58,9 +58,9 @@ impl<B: Board> Server<B> {
     }
 
     // So many entries are acknowledged to the next server, and it has so many.
-    fn hear(&mut self, done: u64, len: u64) -> Result<Effects, NoMemory>
+    fn acknowledge_and_feed(&mut self, done: u64, len: u64) -> Result<Effects, NoMemory>
         requires { self.old.failed ≡ false }
-        ensures { Does self.old (follows (acknowledges self.old.server (min done (length self.old.server.log))) (λ after. feeds after (min len (length after.log)))) result self.new }
+        ensures { Does self.old (acknowledges_and_feeds self.old.server done len) result self.new }
     {
         let upto = done.min(self.log.len());
         let effects = self.acknowledge(upto)?;
@@ -107,6 +107,15 @@ impl<B: Board> Server<B> {
         Ok(effects)
     }
 
+    // What the next server says of itself: so many entries are acknowledged to it, and it has so many.
+    fn hear(&mut self, from: ServerId, done: u64, len: u64) -> Result<Effects, NoMemory>
+        requires { self.old.failed ≡ false }
+        ensures { Does self.old (hears self.old.server from done len) result self.new }
+    {
+        let effects = self.acknowledge_and_feed(done, len)?;
+        self.tell_joined(from, len, effects)
+    }
+
     // The next server tells how many entries are acknowledged to it, and how many its log has.
     pub(super) fn take_ack(
         &mut self,
@@ -120,7 +129,6 @@ impl<B: Board> Server<B> {
         if !is_server(self.link.next(), from) {
             return Ok(Effects::none(self.alloc));
         }
-        let effects = self.hear(done, len)?;
-        self.tell_joined(from, len, effects)
+        self.hear(from, done, len)
     }
 }

@@ -16,7 +16,8 @@ impl<B: Board> Server<B> {
     // Those entries that the log lacks go to its end. How many these were.
     fn grow(&mut self, first: u64, entries: &Entries) -> Result<u64, NoMemory>
         requires { self.old.failed ≡ false }
-        ensures grown { OnOk result (self.new ≡ record { server = appended self.old.server (missing self.old.server.log first entries.now); failed = false }) }
+        ensures grown { OnOk result
+            (self.new ≡ record { server = appended self.old.server (missing self.old.server.log first entries.now); failed = false }) }
         ensures same { OnOk result (acknowledged self.new.server ≡ acknowledged self.old.server) }
         ensures count { IfOk result (λ count. count ≡ length (missing self.old.server.log first entries.now)) }
         ensures err { OnErr result (self.new.failed ≡ true) }
@@ -58,7 +59,8 @@ impl<B: Board> Server<B> {
         mut effects: Effects,
     ) -> Result<Effects, NoMemory>
         requires { self.old.failed ≡ false }
-        ensures { AddsTo effects self.old (sends self.old.server (ack_to self.old.server (Some from) ++ passed_on_by self.old.server taken)) result self.new }
+        ensures { AddsTo effects self.old
+            (sends self.old.server (ack_to self.old.server (Some from) ++ passed_on_by self.old.server taken)) result self.new }
     {
         self.failed = true;
         let mut more = self.ack_to(Some(from))?;

@@ -54,7 +54,7 @@ impl<B: Board> Server<B> {
     }
 
     // A client asks about pairs of events.
-    #[tactic(auto, using(crate::proofs::AskLemmas::stranger_refers, crate::proofs::AskLemmas::other_refers, crate::proofs::AskLemmas::member_waits))]
+    #[tactic(auto, using(crate::proofs::Asked::stranger_refers, crate::proofs::Asked::other_refers, crate::proofs::Asked::member_waits))]
     pub(super) fn take_ask(
         &mut self,
         client: ClientId,
@@ -65,8 +65,10 @@ impl<B: Board> Server<B> {
         requires { self.old.failed ≡ false }
         ensures { Does self.old (after_ask self.old.server (query_of client q part pairs.now)) result self.new }
     {
-        let member = self.is_member();
-        if !member || is_for_tail(self.is_at_tail(), part) {
+        if self.view.is_none() {
+            return Ok(Effects::none(self.alloc));
+        }
+        if !self.is_member() || is_for_tail(self.is_at_tail(), part) {
             self.refer_to_view(client, q, part)
         } else {
             self.wait(client, q, part, pairs)

@@ -3,7 +3,7 @@
 ghost use Rattle.std.specs.Prelude.{◌≡◌, ◌<◌, [], ◌∷◌, true, false, IfOk, OnOk, OnErr};
 ghost use Rattle.kr_order.specs.Done.{done_of, last_of};
 ghost use Rattle.kr_order.specs.History.{highest_seq};
-ghost use Rattle.kr_protocol.specs.Server.{acknowledged, appended, settles, enters, enters_new, after_request};
+ghost use Rattle.kr_protocol.specs.Server.{acknowledged, appended, commits_or_passes_on, enters, enters_new, after_request};
 ghost use Rattle.chain_server.specs.Calls.{Does};
 ghost use Rattle.chain_server.specs.Parts.{entry_of, replies_again};
 
@@ -28,9 +28,9 @@ impl<B: Board> Server<B> {
     }
 
     // What is in the log is acknowledged by the tail, and passed on by another.
-    fn settle(&mut self) -> Result<Effects, NoMemory>
+    fn commit_or_pass_on(&mut self) -> Result<Effects, NoMemory>
         requires { self.old.failed ≡ false }
-        ensures { Does self.old (settles self.old.server) result self.new }
+        ensures { Does self.old (commits_or_passes_on self.old.server) result self.new }
     {
         if self.is_at_tail() {
             let len = self.log.len();
@@ -48,7 +48,7 @@ impl<B: Board> Server<B> {
         ensures { Does self.old (enters self.old.server entry) result self.new }
     {
         self.append(entry)?;
-        self.settle()
+        self.commit_or_pass_on()
     }
 
     // A copy of a command that is newer than all of the client's enters the log of the first member.
@@ -78,7 +78,8 @@ impl<B: Board> Server<B> {
     // The client's last applied entry is replied once more, where it has this number.
     fn reply_again(&mut self, client: ClientId, seq: u64) -> Result<Effects, NoMemory>
         requires { self.old.failed ≡ false }
-        ensures { Does self.old (replies_again self.old.server seq (last_of client (done_of (acknowledged self.old.server)))) result self.new }
+        ensures { Does self.old (replies_again self.old.server seq (last_of client (done_of (acknowledged self.old.server)))) result
+            self.new }
     {
         self.failed = true;
         let effects = match repeated(self.id, &self.board, client, seq)? {
@@ -103,10 +104,12 @@ impl<B: Board> Server<B> {
         if !self.is_member() {
             return Ok(Effects::none(self.alloc));
         }
-        if self.log.highest_seq(client) < seq {
-            self.enter_new(client, seq, command)
-        } else {
+        // a number that is not greater than all of the client's in the log may be that of its last applied entry; a
+        // greater one is not, and the board is not asked
+        if seq <= self.log.highest_seq(client) {
             self.reply_again(client, seq)
+        } else {
+            self.enter_new(client, seq, command)
         }
     }
 }

@@ -1,7 +1,6 @@
 //! What the view that a server has adopted says of it; one without a view has no part in the chain.
 
 ghost use Rattle.std.specs.Prelude.{◌≡◌};
-ghost use Rattle.kr_order.specs.View.{last_member};
 ghost use Rattle.kr_protocol.specs.Server.{is_server, is_member, is_first, is_at_tail, prev, joiner_behind, behind, are_same};
 
 use super::Server;
@@ -31,18 +30,11 @@ pub(super) fn are_same(one: Option<ServerId>, other: Option<ServerId>) -> bool
     }
 }
 
-// The last member of the view.
-fn last_member(view: &View) -> Option<ServerId>
-    ensures { result ≡ last_member view.now }
-{
-    view.chain.get(view.chain.len().saturating_sub(1)).copied()
-}
-
 // The joiner behind the server, where this is the last member of the view.
 pub(super) fn joiner_behind(view: &View, id: ServerId) -> Option<ServerId>
     ensures { result ≡ joiner_behind view.now id }
 {
-    if is_server(last_member(view), id) {
+    if is_server(view.last_member(), id) {
         view.joiner
     } else {
         None

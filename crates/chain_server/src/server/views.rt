@@ -1,33 +1,21 @@
 //! Views that the manager makes.
 
 ghost use Rattle.std.specs.Prelude.{◌≡◌, Some, true, false, OnOk, OnErr};
-ghost use Rattle.kr_protocol.specs.Manager.{names};
 ghost use Rattle.kr_protocol.specs.Server.{acknowledged, server_ticks, need_then, viewing, may_adopt, adopts, after_view};
 ghost use Rattle.chain_server.specs.Calls.{Does, AddsTo};
 
 use super::Server;
 use super::viewed::{are_same, joiner_behind};
 use crate::Effects;
-use kr_order::{Copied, NoMemory, ServerId, View};
+use kr_order::{Copied, NoMemory, View};
 use order_state::Board;
-
-// Whether the view names the server: as a member of its chain, or as its joiner.
-fn names(view: &View, id: ServerId) -> bool
-    ensures { result ≡ names view.now id }
-{
-    let joins = match view.joiner {
-        Some(joiner) => joiner.0 == id.0,
-        None => false,
-    };
-    view.in_chain(id) || joins
-}
 
 impl<B: Board> Server<B> {
     // Whether the view is newer than the server's own and names the server.
     fn may_adopt(&self, view: &View) -> bool
         ensures { result ≡ may_adopt self.now.server view.now }
     {
-        self.view_number() < view.number && names(view, self.id)
+        self.view_number() < view.number && view.names(self.id)
     }
 
     // How many entries a joiner has to have by the view: as many as this server had when it first saw that it joins.

@@ -1,8 +1,7 @@
 //! What clients do: commands, queries, and both tried again.
 
 ghost use Rattle.std.specs.Prelude.{◌≡◌, ◌^◌, ◌-◌, IfOk, OnOk, None, All};
-ghost use Rattle.kr_world.specs.World.{client_at, server_at};
-ghost use Rattle.kr_world.specs.Step.{call_refusal, query_refusal, retry_refusal, told_to, client_calls, client_asks, client_retries};
+ghost use Rattle.kr_world.specs.Step.{told_to, refusal_of, act};
 ghost use Rattle.cluster_sim.specs.Parts.{world_of, IsWhole, IsNotedOf, told_in, Makes};
 ghost use Rattle.cluster_sim.specs.BagStanding.{IsSent};
 ghost use Rattle.kr_wire.specs.Valid.{IsPacket};
@@ -13,6 +12,7 @@ use crate::parts::{Noted, Parts, PartsTelling, Telling};
 use crate::refusals::index_of;
 use client_session::{CallStop, Heard, RetryStop};
 use kr_order::{Asked, ClientId, Command, Copied, NoMemory, ServerId, ToldReply};
+use script_lang::Event;
 use std::alloc::Global;
 
 /// The client begins the command, and its request is put into the bag.
@@ -23,9 +23,9 @@ pub fn call(
     command: &Command,
 ) -> Result<Noted, NoMemory>
     requires whole { IsWhole parts.old }
-    requires free { call_refusal (world_of parts.old) (client_at (world_of parts.old) client) ≡ None }
-    requires fit { All IsPacket (client_calls (world_of parts.old) client command.now (client_at (world_of parts.old) client)).after.bag }
-    ensures { IfOk result (Makes (client_calls (world_of parts.old) client command.now (client_at (world_of parts.old) client)) parts.old.bag.before parts.new) }
+    requires free { refusal_of (world_of parts.old) (Event.Call client command.now) ≡ None }
+    requires fit { All IsPacket (act (world_of parts.old) (Event.Call client command.now)).after.bag }
+    ensures { IfOk result (Makes (act (world_of parts.old) (Event.Call client command.now)) parts.old.bag.before parts.new) }
 {
     let i = index_of(u64::from(client.0));
     let command = command.copy(alloc)?;
@@ -78,10 +78,10 @@ pub fn ask(
     pairs: &Asked,
 ) -> Result<Noted, NoMemory>
     requires whole { IsWhole parts.old }
-    requires free { query_refusal (world_of parts.old) server (client_at (world_of parts.old) client) (server_at (world_of parts.old) server) ≡ None }
+    requires free { refusal_of (world_of parts.old) (Event.Query client server pairs.now) ≡ None }
     requires few { HaveBegun (2 ^ 63 - 1) (world_of parts.old).clients }
-    requires fit { All IsPacket (client_asks (world_of parts.old) client server pairs.now (client_at (world_of parts.old) client)).after.bag }
-    ensures { IfOk result (Makes (client_asks (world_of parts.old) client server pairs.now (client_at (world_of parts.old) client)) parts.old.bag.before parts.new) }
+    requires fit { All IsPacket (act (world_of parts.old) (Event.Query client server pairs.now)).after.bag }
+    ensures { IfOk result (Makes (act (world_of parts.old) (Event.Query client server pairs.now)) parts.old.bag.before parts.new) }
 {
     let i = index_of(u64::from(client.0));
     let node = &mut parts.clients[i];
@@ -95,9 +95,9 @@ pub fn ask(
 /// The client's open call is put into the bag once more, for this server.
 pub fn retry(parts: &mut Parts, client: ClientId, server: ServerId) -> Result<Noted, NoMemory>
     requires whole { IsWhole parts.old }
-    requires free { retry_refusal (world_of parts.old) server (client_at (world_of parts.old) client) (server_at (world_of parts.old) server) ≡ None }
-    requires fit { All IsPacket (client_retries (world_of parts.old) server (client_at (world_of parts.old) client)).after.bag }
-    ensures { IfOk result (Makes (client_retries (world_of parts.old) server (client_at (world_of parts.old) client)) parts.old.bag.before parts.new) }
+    requires free { refusal_of (world_of parts.old) (Event.Retry client server) ≡ None }
+    requires fit { All IsPacket (act (world_of parts.old) (Event.Retry client server)).after.bag }
+    ensures { IfOk result (Makes (act (world_of parts.old) (Event.Retry client server)) parts.old.bag.before parts.new) }
 {
     let i = index_of(u64::from(client.0));
     match parts.clients[i].retry(server) {

@@ -2,8 +2,8 @@
 
 ghost use Rattle.std.specs.Prelude.{◌≡◌, ◌≤◌, false, IfOk, None, All};
 ghost use Rattle.kr_protocol.specs.Manager.{views_of};
-ghost use Rattle.kr_world.specs.World.{client_at, server_at, packet_at, is_stopped};
-ghost use Rattle.kr_world.specs.Step.{deliver_refusal, lose_refusal, arrives_at_client, arrives_at_server, arrives_at_manager, delivers, loses};
+ghost use Rattle.kr_world.specs.World.{client_at, server_at, is_stopped};
+ghost use Rattle.kr_world.specs.Step.{arrives_at_client, arrives_at_server, arrives_at_manager, refusal_of, act};
 ghost use Rattle.kr_world.specs.Sound.{IsSoundPacket};
 ghost use Rattle.kr_wire.specs.Valid.{IsPacket};
 ghost use Rattle.cluster_sim.specs.Parts.{world_of, IsWhole, Makes};
@@ -11,16 +11,20 @@ ghost use Rattle.cluster_sim.specs.Parts.{world_of, IsWhole, Makes};
 use crate::parts::{Noted, Parts};
 use crate::refusals::index_of;
 use crate::step::calls::hear;
-use crate::step::turns::settle;
+use crate::step::turns::carry_out;
 use crate::step::views::promote;
 use kr_order::{ClientId, Message, NoMemory, Node, Packet, ServerId};
+use script_lang::Event;
 use std::alloc::Global;
 
 // A packet arrives at a client, which hears it.
 fn arrive_at_client(parts: &mut Parts, client: ClientId, packet: &Packet) -> Result<Noted, NoMemory>
     requires whole { IsWhole parts.old }
-    requires fit { All IsPacket (arrives_at_client (world_of parts.old) client packet.now (client_at (world_of parts.old) client)).after.bag }
-    ensures { IfOk result (Makes (arrives_at_client (world_of parts.old) client packet.now (client_at (world_of parts.old) client)) parts.old.bag.before parts.new) }
+    requires fit { All IsPacket
+        (arrives_at_client (world_of parts.old) client packet.now (client_at (world_of parts.old) client)).after.bag }
+    ensures { IfOk result
+        (Makes (arrives_at_client (world_of parts.old) client packet.now (client_at (world_of parts.old) client)) parts.old.bag.before
+        parts.new) }
 {
     let i = index_of(u64::from(client.0));
     if i >= parts.clients.len() {
@@ -40,8 +44,11 @@ fn arrive_at_server(
     requires whole { IsWhole parts.old }
     requires said { IsSoundPacket (views_of parts.old.manager) (world_of parts.old).servers packet.now }
     requires runs { is_stopped (world_of parts.old) server ≡ false }
-    requires fit { All IsPacket (arrives_at_server (world_of parts.old) server packet.now (server_at (world_of parts.old) server)).after.bag }
-    ensures { IfOk result (Makes (arrives_at_server (world_of parts.old) server packet.now (server_at (world_of parts.old) server)) parts.old.bag.before parts.new) }
+    requires fit { All IsPacket
+        (arrives_at_server (world_of parts.old) server packet.now (server_at (world_of parts.old) server)).after.bag }
+    ensures { IfOk result
+        (Makes (arrives_at_server (world_of parts.old) server packet.now (server_at (world_of parts.old) server)) parts.old.bag.before
+        parts.new) }
 {
     let i = index_of(u64::from(server.0));
     if i >= parts.servers.len() {
@@ -50,7 +57,7 @@ fn arrive_at_server(
     let node = &mut parts.servers[i];
     let before = node.done();
     let effects = node.take(packet)?;
-    settle(alloc, parts, before, effects)?;
+    carry_out(alloc, parts, before, effects)?;
     Ok(Noted::nothing())
 }
 
@@ -59,7 +66,8 @@ fn arrive_at_manager(parts: &mut Parts, packet: &Packet) -> Result<Noted, NoMemo
     requires whole { IsWhole parts.old }
     requires said { IsSoundPacket (views_of parts.old.manager) (world_of parts.old).servers packet.now }
     requires fit { All IsPacket (arrives_at_manager (world_of parts.old) packet.now.from packet.now.message).after.bag }
-    ensures { IfOk result (Makes (arrives_at_manager (world_of parts.old) packet.now.from packet.now.message) parts.old.bag.before parts.new) }
+    ensures { IfOk result
+        (Makes (arrives_at_manager (world_of parts.old) packet.now.from packet.now.message) parts.old.bag.before parts.new) }
 {
     match (packet.from, &packet.message) {
         (Node::Server(from), Message::Joined { joiner }) => promote(parts, from, *joiner),
@@ -71,9 +79,9 @@ fn arrive_at_manager(parts: &mut Parts, packet: &Packet) -> Result<Noted, NoMemo
 pub fn deliver(alloc: Global, parts: &mut Parts, k: u64) -> Result<Noted, NoMemory>
     requires whole { IsWhole parts.old }
     requires first { 1 ≤ k }
-    requires free { deliver_refusal (world_of parts.old) k (packet_at (world_of parts.old) k) ≡ None }
-    requires fit { All IsPacket (delivers (world_of parts.old) k (packet_at (world_of parts.old) k)).after.bag }
-    ensures { IfOk result (Makes (delivers (world_of parts.old) k (packet_at (world_of parts.old) k)) parts.old.bag.before parts.new) }
+    requires free { refusal_of (world_of parts.old) (Event.Deliver k) ≡ None }
+    requires fit { All IsPacket (act (world_of parts.old) (Event.Deliver k)).after.bag }
+    ensures { IfOk result (Makes (act (world_of parts.old) (Event.Deliver k)) parts.old.bag.before parts.new) }
 {
     let packet = parts.bag.packet(k)?;
     parts.bag.mark_delivered(k);
@@ -88,8 +96,8 @@ pub fn deliver(alloc: Global, parts: &mut Parts, k: u64) -> Result<Noted, NoMemo
 pub fn lose(parts: &mut Parts, k: u64) -> Result<Noted, NoMemory>
     requires whole { IsWhole parts.old }
     requires first { 1 ≤ k }
-    requires free { lose_refusal (world_of parts.old) k (packet_at (world_of parts.old) k) ≡ None }
-    ensures { IfOk result (Makes (loses (world_of parts.old) k) parts.old.bag.before parts.new) }
+    requires free { refusal_of (world_of parts.old) (Event.Lose k) ≡ None }
+    ensures { IfOk result (Makes (act (world_of parts.old) (Event.Lose k)) parts.old.bag.before parts.new) }
 {
     parts.bag.mark_lost(k);
     Ok(Noted::nothing())

@@ -2,7 +2,7 @@
 
 ghost use Rattle.std.specs.Prelude.{◌≡◌, None, IfOk, OnOk, All};
 ghost use Rattle.kr_world.specs.World.{server_at};
-ghost use Rattle.kr_world.specs.Step.{turn_refusal, tick_refusal, works, ticks, ticks_at, shows};
+ghost use Rattle.kr_world.specs.Step.{turn_refusal, ticks_at, refusal_of, act};
 ghost use Rattle.cluster_sim.specs.Parts.{world_of, noted, IsWhole, Makes};
 ghost use Rattle.cluster_sim.specs.BagStanding.{IsSent};
 ghost use Rattle.kr_wire.specs.Valid.{IsPacket};
@@ -13,12 +13,13 @@ use crate::step::views::tell;
 use chain_server::Effects;
 use kr_order::{NoMemory, ServerId};
 use kr_world::Shown;
+use script_lang::Event;
 use std::alloc::Global;
 use std::thread::Threads;
 
 /// What a server that had applied so many entries has done: its packets go into the bag, and what it has newly
 /// applied into the journal, where it is new to the history.
-pub fn settle(
+pub fn carry_out(
     alloc: Global,
     parts: &mut Parts,
     before: u64,
@@ -45,9 +46,9 @@ pub fn work<R: Threads + Sync>(
     workers: u32,
 ) -> Result<Noted, NoMemory>
     requires whole { IsWhole parts.old }
-    requires free { turn_refusal (world_of parts.old) server (server_at (world_of parts.old) server) ≡ None }
-    requires fit { All IsPacket (works (world_of parts.old) server (server_at (world_of parts.old) server)).after.bag }
-    ensures { IfOk result (Makes (works (world_of parts.old) server (server_at (world_of parts.old) server)) parts.old.bag.before parts.new) }
+    requires free { refusal_of (world_of parts.old) (Event.Work server workers) ≡ None }
+    requires fit { All IsPacket (act (world_of parts.old) (Event.Work server workers)).after.bag }
+    ensures { IfOk result (Makes (act (world_of parts.old) (Event.Work server workers)) parts.old.bag.before parts.new) }
 {
     let i = index_of(u64::from(server.0));
     if i >= parts.servers.len() {
@@ -56,7 +57,7 @@ pub fn work<R: Threads + Sync>(
     let node = &mut parts.servers[i];
     let before = node.done();
     let effects = node.work(rt, workers)?;
-    settle(alloc, parts, before, effects)?;
+    carry_out(alloc, parts, before, effects)?;
     Ok(Noted::nothing())
 }
 
@@ -65,7 +66,8 @@ fn tick_at(alloc: Global, parts: &mut Parts, server: ServerId) -> Result<Noted, 
     requires whole { IsWhole parts.old }
     requires free { turn_refusal (world_of parts.old) server (server_at (world_of parts.old) server) ≡ None }
     requires fit { All IsPacket (ticks_at (world_of parts.old) server (server_at (world_of parts.old) server)).after.bag }
-    ensures { IfOk result (Makes (ticks_at (world_of parts.old) server (server_at (world_of parts.old) server)) parts.old.bag.before parts.new) }
+    ensures { IfOk result
+        (Makes (ticks_at (world_of parts.old) server (server_at (world_of parts.old) server)) parts.old.bag.before parts.new) }
 {
     let i = index_of(u64::from(server.0));
     if i >= parts.servers.len() {
@@ -74,16 +76,16 @@ fn tick_at(alloc: Global, parts: &mut Parts, server: ServerId) -> Result<Noted, 
     let node = &mut parts.servers[i];
     let before = node.done();
     let effects = node.tick()?;
-    settle(alloc, parts, before, effects)?;
+    carry_out(alloc, parts, before, effects)?;
     Ok(Noted::nothing())
 }
 
 /// A tick: of a server, or of the manager, which tells the servers again of its view.
 pub fn tick(alloc: Global, parts: &mut Parts, who: Option<ServerId>) -> Result<Noted, NoMemory>
     requires whole { IsWhole parts.old }
-    requires free { tick_refusal (world_of parts.old) who ≡ None }
-    requires fit { All IsPacket (ticks (world_of parts.old) who).after.bag }
-    ensures { IfOk result (Makes (ticks (world_of parts.old) who) parts.old.bag.before parts.new) }
+    requires free { refusal_of (world_of parts.old) (Event.Tick who) ≡ None }
+    requires fit { All IsPacket (act (world_of parts.old) (Event.Tick who)).after.bag }
+    ensures { IfOk result (Makes (act (world_of parts.old) (Event.Tick who)) parts.old.bag.before parts.new) }
 {
     match who {
         None => tell(parts),
@@ -94,7 +96,7 @@ pub fn tick(alloc: Global, parts: &mut Parts, who: Option<ServerId>) -> Result<N
 /// What the server has is shown.
 pub fn show(parts: &mut Parts, server: ServerId) -> Result<Noted, NoMemory>
     requires whole { IsWhole parts.old }
-    ensures { IfOk result (Makes (shows (world_of parts.old) server (server_at (world_of parts.old) server)) parts.old.bag.before parts.new) }
+    ensures { IfOk result (Makes (act (world_of parts.old) (Event.Show server)) parts.old.bag.before parts.new) }
 {
     let Some(node) = parts.servers.get(index_of(u64::from(server.0))) else {
         return Ok(Noted::nothing());

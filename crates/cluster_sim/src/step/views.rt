@@ -1,10 +1,10 @@
 //! Servers stop, the manager makes views, and clients learn them.
 
 ghost use Rattle.std.specs.Prelude.{◌≡◌, ◌≢◌, ◌<◌, [], ◌∷◌, ◌++◌, true, false, None, IfOk, OnOk, All};
-ghost use Rattle.kr_protocol.specs.Manager.{names, next_server, removes, adds, views_of};
+ghost use Rattle.kr_order.specs.View.{names};
+ghost use Rattle.kr_protocol.specs.Manager.{next_server, removes, adds, views_of};
 ghost use Rattle.kr_protocol.specs.Server.{newcomer};
-ghost use Rattle.kr_world.specs.World.{client_at, server_at};
-ghost use Rattle.kr_world.specs.Step.{stop_refusal, notice_refusal, join_refusal, learn_refusal, manager_tells, joined_at_manager, stops, notices, joins, learns_view};
+ghost use Rattle.kr_world.specs.Step.{manager_tells, joined_at_manager, joins, refusal_of, act};
 ghost use Rattle.kr_world.specs.Sound.{HasJoined};
 ghost use Rattle.cluster_sim.specs.Parts.{world_of, IsWhole, Makes};
 ghost use Rattle.kr_wire.specs.Valid.{IsPacket};
@@ -15,6 +15,7 @@ use chain_manager::{Deny, MOST_SERVERS, Manager};
 use chain_server::Server;
 use kr_order::{ClientId, NoMemory, ServerId};
 use order_state::PlainBoard;
+use script_lang::Event;
 use std::alloc::Global;
 
 /// The manager tells all whom its current view names of it.
@@ -31,8 +32,8 @@ pub fn tell(parts: &mut Parts) -> Result<Noted, NoMemory>
 /// The server has stopped, for good.
 pub fn stop(parts: &mut Parts, server: ServerId) -> Result<Noted, NoMemory>
     requires whole { IsWhole parts.old }
-    requires free { stop_refusal (world_of parts.old) server (server_at (world_of parts.old) server) ≡ None }
-    ensures { IfOk result (Makes (stops (world_of parts.old) server) parts.old.bag.before parts.new) }
+    requires free { refusal_of (world_of parts.old) (Event.Stop server) ≡ None }
+    ensures { IfOk result (Makes (act (world_of parts.old) (Event.Stop server)) parts.old.bag.before parts.new) }
 {
     let i = index_of(u64::from(server.0));
     parts.stopped[i] = true;
@@ -55,9 +56,9 @@ fn remove(manager: &mut Manager, id: ServerId) -> Result<(), NoMemory>
 /// The manager hears of a server that has stopped: it makes the next view, and tells of it.
 pub fn notice(parts: &mut Parts, server: ServerId) -> Result<Noted, NoMemory>
     requires whole { IsWhole parts.old }
-    requires free { notice_refusal (world_of parts.old) server (server_at (world_of parts.old) server) ≡ None }
-    requires fit { All IsPacket (notices (world_of parts.old) (server_at (world_of parts.old) server)).after.bag }
-    ensures { IfOk result (Makes (notices (world_of parts.old) (server_at (world_of parts.old) server)) parts.old.bag.before parts.new) }
+    requires free { refusal_of (world_of parts.old) (Event.Notice server) ≡ None }
+    requires fit { All IsPacket (act (world_of parts.old) (Event.Notice server)).after.bag }
+    ensures { IfOk result (Makes (act (world_of parts.old) (Event.Notice server)) parts.old.bag.before parts.new) }
 {
     let id = parts.servers[index_of(u64::from(server.0))].id();
     remove(&mut parts.manager, id)?;
@@ -67,7 +68,8 @@ pub fn notice(parts: &mut Parts, server: ServerId) -> Result<Noted, NoMemory>
 // A new server, with nothing in its log and no view, is behind the others.
 fn add(alloc: Global, parts: &mut Parts, id: ServerId) -> Result<(), NoMemory>
     ensures manager { parts.new.manager ≡ parts.old.manager }
-    ensures servers { OnOk result (parts.new.servers.items ≡ parts.old.servers.items ++ record { server = newcomer id; failed = false } ∷ []) }
+    ensures servers { OnOk result (parts.new.servers.items ≡ parts.old.servers.items ++ record { server = newcomer id; failed = false }
+        ∷ []) }
     ensures stopped { OnOk result (parts.new.stopped.items ≡ parts.old.stopped.items ++ false ∷ []) }
     ensures clients { parts.new.clients ≡ parts.old.clients }
     ensures bag { parts.new.bag ≡ parts.old.bag }
@@ -97,9 +99,9 @@ fn welcome(manager: &mut Manager) -> Result<ServerId, NoMemory>
 /// A new server joins: the manager makes the next view, of which it is the joiner, and tells of it.
 pub fn join(alloc: Global, parts: &mut Parts) -> Result<Noted, NoMemory>
     requires whole { IsWhole parts.old }
-    requires free { join_refusal (world_of parts.old) ≡ None }
-    requires fit { All IsPacket (joins (world_of parts.old)).after.bag }
-    ensures { IfOk result (Makes (joins (world_of parts.old)) parts.old.bag.before parts.new) }
+    requires free { refusal_of (world_of parts.old) Event.Join ≡ None }
+    requires fit { All IsPacket (act (world_of parts.old) Event.Join).after.bag }
+    ensures { IfOk result (Makes (act (world_of parts.old) Event.Join) parts.old.bag.before parts.new) }
 {
     let id = welcome(&mut parts.manager)?;
     add(alloc, parts, id)?;
@@ -123,8 +125,8 @@ pub fn promote(parts: &mut Parts, from: ServerId, joiner: ServerId) -> Result<No
 /// The client learns the manager's current view.
 pub fn learn(parts: &mut Parts, client: ClientId) -> Result<Noted, NoMemory>
     requires whole { IsWhole parts.old }
-    requires free { learn_refusal (client_at (world_of parts.old) client) ≡ None }
-    ensures { IfOk result (Makes (learns_view (world_of parts.old) client (client_at (world_of parts.old) client)) parts.old.bag.before parts.new) }
+    requires free { refusal_of (world_of parts.old) (Event.Learn client) ≡ None }
+    ensures { IfOk result (Makes (act (world_of parts.old) (Event.Learn client)) parts.old.bag.before parts.new) }
 {
     let i = index_of(u64::from(client.0));
     parts.clients[i].learn(parts.manager.current())?;

@@ -1,7 +1,8 @@
 //! Worked histories: what the definitions reply to the commands of one client, and answer after them.
 
 ghost use Rattle.std.specs.Prelude.{◌≡◌, [], ◌∷◌, ◌++◌, drop, codes, replicate};
-ghost use Rattle.kr_order.specs.Rows.{create, assign, acquire, release, must, prefer, chain_of_30, dead_on_the_way, replies_of, answer_after, held_after, held_pairs_after, repeated};
+ghost use Rattle.kr_order.specs.Rows.{create, assign, acquire, release, must, prefer, chain_of_30, dead_on_the_way};
+ghost use Rattle.kr_order.specs.Rows.{replies_of, answer_after, held_after, held_pairs_after, repeated};
 
 /// A must is kept, also where the order has it already. The other way round it contradicts.
 pub fn a_must_is_kept_and_its_reverse_contradicts()

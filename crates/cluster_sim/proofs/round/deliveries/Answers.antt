@@ -4,7 +4,7 @@ use Rattle.std.specs.declared.alloc.Global.{Global}
 use Rattle.script_lang.specs.declared.script.Event.{Event}
 use Rattle.script_lang.specs.declared.script.Event.TheVariants.{Deliver}
 use Rattle.kr_world.specs.Round.{is_under_way}
-use Rattle.kr_world.proofs.RoundLoopLemmas.{kept_more, left_out}
+use Rattle.kr_world.proofs.rounds.RoundLoopLemmas.{kept_more, left_out}
 use Rattle.cluster_sim.specs.Parts.{world_of}
 use Rattle.cluster_sim.proofs.RoundLemmas.{none_delivered}
 use Rattle.cluster_sim.proofs.round.deliveries.Goals as goal

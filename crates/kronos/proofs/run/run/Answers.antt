@@ -4,7 +4,7 @@ use Rattle.script_lang.specs.Event.{IsEvent}
 use Rattle.kr_world.specs.Lines.{end_lines}
 use Rattle.kr_world.specs.Run.{text_of}
 use Rattle.kr_world.specs.Sound.{HaveBegun}
-use Rattle.kr_world.proofs.CountLemmas.{none_begun}
+use Rattle.kr_world.proofs.steps.CountLemmas.{none_begun}
 use Rattle.cluster_sim.specs.ClusterStanding.{ClusterStanding}
 use Rattle.kronos.specs.Runs.{RanEvents, IsWritten}
 use Rattle.kronos.proofs.RunLemmas.{text_of-some, front_nothing, ended}

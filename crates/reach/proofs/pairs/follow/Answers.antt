@@ -21,7 +21,7 @@ loop-out-preserved g c =
     let outs = outs_of c.args.graph.now.pairs (event_of slots c.args.cell) in
     let was : Follows slots outs c.args.goal.0 c.args.found.now.cells c.loop-out.found.cells ((out.cell, out.event.0) ∷ c.next.new.self) = subst (λ (rest : List (ℕ × ℕ)). Follows slots outs c.args.goal.0 c.args.found.now.cells c.loop-out.found.cells rest) c.in-Some.ensures.steps c.loop-out.invariant.follows in
     let other = ne_eqb out.event.0 c.args.goal.0 c.if-out-goal.false in
-    let one = Follows-more slots outs c.args.goal.0 c.args.found.now.cells c.loop-out.found.cells out.cell out.event.0 c.next.new.self (record { one = c.known.ensures.one_cell }) other was in
+    let one = Follows-more slots outs c.args.goal.0 c.args.found.now.cells c.loop-out.found.cells out.cell out.event.0 c.next.new.self (record { one = c.recall_graph.ensures.one_cell }) other was in
     record {
       follows = subst (λ (cells : List ℕ). Follows slots outs c.args.goal.0 c.args.found.now.cells cells c.next.new.self) (sym c.add.ensures.cells) one;
       steps = omega (arith, c.loop-out.invariant.steps, ap (λ (rest : List (ℕ × ℕ)). length rest) c.in-Some.ensures.steps);

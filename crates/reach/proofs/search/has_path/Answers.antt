@@ -34,7 +34,7 @@ returns-then-search-clause-most g c =
     let graph = c.args.graph.now in
     let new = c.search.new.found.cells in
     let le = IsPrefix-length c.loop-next.found.cells new c.search.ensures.front in
-    steps_bound graph new c.args.steps.now c.search.new.steps c.loop-next.next (length c.args.extra.now) c.known.ensures c.search.ensures.placed (omega (arith, c.search.ensures.most, c.loop-next.invariant.most)) (omega (arith, le, c.loop-next.invariant.under_way.within))
+    steps_bound graph new c.args.steps.now c.search.new.steps c.loop-next.next (length c.args.extra.now) c.recall_graph.ensures c.search.ensures.placed (omega (arith, c.search.ensures.most, c.loop-next.invariant.most)) (omega (arith, le, c.loop-next.invariant.under_way.within))
 
 pub returns-then-follow_each-clause-value : goal.returns-then-follow_each-clause-value
 returns-then-follow_each-clause-value g c =
@@ -54,7 +54,7 @@ returns-then-follow_each-clause-most g c =
     let le = IsPrefix-length c.loop-next.found.cells mid c.search.ensures.front in
     let below : next < length c.loop-next.found.cells = omega (arith, c.len.ensures.value, c.loop-next-test.true) in
     let one_more : (next + 1) * extra ≡ next * extra + extra = add-mul next 1 extra ∙ ap (λ n. next * extra + n) (one-mul extra) in
-    steps_bound graph mid c.args.steps.now c.follow_each.new.steps (next + 1) extra c.known.ensures c.search.ensures.placed (omega (arith, one_more, c.search.ensures.most, c.follow_each.ensures.most, c.loop-next.invariant.most)) (omega (arith, le, below))
+    steps_bound graph mid c.args.steps.now c.follow_each.new.steps (next + 1) extra c.recall_graph.ensures c.search.ensures.placed (omega (arith, one_more, c.search.ensures.most, c.follow_each.ensures.most, c.loop-next.invariant.most)) (omega (arith, le, below))
 
 pub loop-next-preserved : goal.loop-next-preserved
 loop-next-preserved g c =
@@ -92,4 +92,4 @@ returns-clause-most g c =
     let graph = c.args.graph.now in
     let cells = c.loop-next.found.cells in
     let part = sum_by-take-le (λ event. length (outs_of graph.pairs event) + 1) (events_of graph.slots cells) c.loop-next.next in
-    steps_bound graph cells c.args.steps.now c.loop-next.steps c.loop-next.next (length c.args.extra.now) c.known.ensures c.loop-next.invariant.under_way.placed (omega (arith, part, c.loop-next.invariant.most)) c.loop-next.invariant.under_way.within
+    steps_bound graph cells c.args.steps.now c.loop-next.steps c.loop-next.next (length c.args.extra.now) c.recall_graph.ensures c.loop-next.invariant.under_way.placed (omega (arith, part, c.loop-next.invariant.most)) c.loop-next.invariant.under_way.within

@@ -3,7 +3,7 @@ use Rattle.std.specs.List.{All}
 use Rattle.dep_graph.specs.GraphView.{is_held}
 use Rattle.ref_collect.specs.Needed.{AreWaiting, NeedsTheSame}
 use Rattle.ref_collect.proofs.NeededLemmas.{needs_the_same}
-use Rattle.ref_collect.proofs.WaitingLemmas.{last_apart, last_held, last_source, AreWaiting-live, AreWaiting-gone, bared_few}
+use Rattle.ref_collect.proofs.WaitingLemmas.{last_apart, last_source, AreWaiting-live, AreWaiting-gone, bared_few}
 use Rattle.ref_collect.proofs.removal.remove_dead.Goals as goal
 
 pub remove_source-requires-clause-apart : goal.remove_source-requires-clause-apart
@@ -13,8 +13,8 @@ remove_source-requires-clause-apart c =
 pub returns-then-count-eq0-clause-waiting : goal.returns-then-count-eq0-clause-waiting
 returns-then-count-eq0-clause-waiting c =
     let then = c.remove_source.ensures in
-    let held = rw (then.vertices, then.bare) at c.known-then-count-eq0.ensures.bare in
-    rw (then.vertices, then.pairs, then.bare) (AreWaiting-gone c.args.refs.now.counts c.args.graph.now.pairs c.args.graph.now.vertices c.args.graph.now.bare c.args.id.0 c.requires c.known.ensures.distinct held)
+    let held = rw (then.vertices, then.bare) at c.recall_graph-then-count-eq0.ensures.bare in
+    rw (then.vertices, then.pairs, then.bare) (AreWaiting-gone c.args.refs.now.counts c.args.graph.now.pairs c.args.graph.now.vertices c.args.graph.now.bare c.args.id.0 c.requires c.recall_graph.ensures.distinct held)
 
 pub returns-then-count-eq0-clause-same : goal.returns-then-count-eq0-clause-same
 returns-then-count-eq0-clause-same c =

@@ -1,7 +1,7 @@
 use Rattle.std.proofs.Common.{sym, ◌∙◌, subst}
 use Rattle.std.specs.Prelude.{All}
 use Rattle.kr_world.specs.Round.{IsOfRound}
-use Rattle.kr_world.proofs.RoundShapeLemmas.{calls_of_round}
+use Rattle.kr_world.proofs.rounds.RoundShapeLemmas.{calls_of_round}
 use Rattle.cluster_sim.proofs.cluster.Cluster.calls_onto.Goals as goal
 
 pub all_onto-requires-clause-kinds : goal.all_onto-requires-clause-kinds

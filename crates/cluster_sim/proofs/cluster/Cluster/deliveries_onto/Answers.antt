@@ -1,7 +1,7 @@
 use Rattle.std.proofs.Common.{sym, ◌∙◌, subst}
 use Rattle.std.specs.Prelude.{All}
 use Rattle.kr_world.specs.Round.{IsOfRound}
-use Rattle.kr_world.proofs.RoundShapeLemmas.{deliveries_of_round}
+use Rattle.kr_world.proofs.rounds.RoundShapeLemmas.{deliveries_of_round}
 use Rattle.cluster_sim.proofs.cluster.Cluster.deliveries_onto.Goals as goal
 
 pub all_onto-requires-clause-kinds : goal.all_onto-requires-clause-kinds

@@ -2,7 +2,7 @@ use Rattle.std.proofs.Common.{◌-◌, ◌^◌, sym, ◌∙◌, subst}
 use Rattle.std.specs.Prelude.{All}
 use Rattle.kr_world.specs.Sound.{HaveBegun}
 use Rattle.kr_world.specs.Round.{round_calls, delivery_events, IsOfRound}
-use Rattle.kr_world.proofs.RoundShapeLemmas.{calls_of_round, deliveries_of_round, works_of_round}
+use Rattle.kr_world.proofs.rounds.RoundShapeLemmas.{calls_of_round, deliveries_of_round, works_of_round}
 use Rattle.cluster_sim.specs.ClusterStanding.{ClusterStanding}
 use Rattle.cluster_sim.proofs.ClusterLemmas.{still_whole, begun_still, does_round}
 use Rattle.cluster_sim.proofs.cluster.Cluster.steps_onto.Goals as goal

@@ -1,7 +1,7 @@
 use Rattle.std.proofs.Common.{◌≡◌, ◌≤◌, Bool, true, false, ℕ, List, [], refl, sym, ap, ◌∙◌, subst, arith}
 use Rattle.dep_graph.specs.GraphView.{GraphView, outs_of}
 use Rattle.dep_graph.specs.Links.{IsDropped}
-use Rattle.dep_graph.proofs.ChangeLemmas.{IsDropping, IsDropping-none, IsDropping-more, pairs-dropped}
+use Rattle.dep_graph.proofs.ChangeLemmas.{IsDropping, IsDropping-more, pairs-dropped}
 use Rattle.dep_graph.proofs.graph.Graph.drop_pairs.Goals as goal
 
 -- one turn goes on, or changes nothing

@@ -2,7 +2,8 @@ use Rattle.std.proofs.Common.{◌≡◌, ◌-◌, ◌*◌, ◌<◌, ◌++◌, Li
 use Rattle.std.specs.Prelude.{map}
 use Rattle.std.proofs.lemmas.List.{length-map}
 use Rattle.net_bag.specs.Index.{bit_in}
-use Rattle.net_bag.specs.Sent.{Sent, marked}
+use Rattle.kr_order.specs.Marks.{marked}
+use Rattle.net_bag.specs.Sent.{Sent}
 use Rattle.net_bag.specs.Kept.{IsKept}
 use Rattle.net_bag.proofs.KeptLemmas.{rewritten, kept_delivered}
 use Rattle.net_bag.proofs.bag.Bag.mark_delivered.Goals as goal
@@ -18,9 +19,9 @@ invariant_of-self c =
     let words = c.set_bit.new.words in
     let i = c.args.k - 1 in
     let within : i < length spellings = omega (arith, c.requires.first, c.requires.last, ap (λ (s : Sent). length s.spellings) c.self.view_is) in
-    let count : length words ≡ length inside.settled.items = omega (arith, c.set_bit.auto.words, ap length c.deref_mut.ensures.value) in
-    let same : take inside.settled.len (words ++ drop (length words) inside.settled.items) ≡ words = rewritten inside.settled.len words inside.settled.items (omega (arith, c.set_bit.auto.words, c.deref_mut.ensures.len)) in
-    let kept = kept_delivered spellings inside.lost.items inside.delivered.items inside.settled.items words inside.bytes i c.self.invariant within count (λ j. c.set_bit.ensures j ∙ ap (λ ws. cond (eqb j i) 1 (bit_in ws j)) c.deref_mut.ensures.value) in
+    let count : length words ≡ length inside.closed.items = omega (arith, c.set_bit.auto.words, ap length c.deref_mut.ensures.value) in
+    let same : take inside.closed.len (words ++ drop (length words) inside.closed.items) ≡ words = rewritten inside.closed.len words inside.closed.items (omega (arith, c.set_bit.auto.words, c.deref_mut.ensures.len)) in
+    let kept = kept_delivered spellings inside.lost.items inside.delivered.items inside.closed.items words inside.bytes i c.self.invariant within count (λ j. c.set_bit.ensures j ∙ ap (λ ws. cond (eqb j i) 1 (bit_in ws j)) c.deref_mut.ensures.value) in
     subst (λ ws. IsKept spellings inside.lost.items (set inside.delivered.items i true) ws inside.bytes) (sym same) kept
 
 pub returns : goal.returns

@@ -17,11 +17,11 @@ invariant_of-self-2 c =
     let e2 : c.push_reserved-2.new.self.items ≡ inside.lost.items ++ false ∷ [] = c.push_reserved-2.ensures.items ∙ ap (λ xs. xs ++ false ∷ []) c.reserve-2.ensures.items in
     let e3 : c.push_reserved-3.new.self.items ≡ inside.delivered.items ++ false ∷ [] = c.push_reserved-3.ensures.items ∙ ap (λ xs. xs ++ false ∷ []) c.reserve-3.ensures.items in
     let count : c.len-count.result ≡ length spellings = omega (arith, length-map inside.spellings.items (λ v. v.items)) in
-    let e4 : c.make_room.new.words.items ≡ words_for inside.settled.items (length spellings) = c.in_ok-make_room.ensures.ok ∙ ap (words_for inside.settled.items) count in
+    let e4 : c.make_room.new.words.items ≡ words_for inside.closed.items (length spellings) = c.in_ok-make_room.ensures.ok ∙ ap (words_for inside.closed.items) count in
     let e5 : c.saturating_add-self-inside.result ≡ min (inside.bytes + length one.items) (2 ^ 64 - 1) = omega arith in
     let spells : IsSpelling one.items = (c.args.packet.now, c.requires, c.in_ok-spelling.ensures) in
     let room : length spellings < 2 ^ 56 = omega arith in
-    kept_same _ _ _ _ _ _ _ _ _ _ e1 e2 e3 e4 e5 (kept_push spellings inside.lost.items inside.delivered.items inside.settled.items inside.bytes one.items c.self.invariant spells room)
+    kept_same _ _ _ _ _ _ _ _ _ _ e1 e2 e3 e4 e5 (kept_push spellings inside.lost.items inside.delivered.items inside.closed.items inside.bytes one.items c.self.invariant spells room)
 
 pub returns-clause-ok : goal.returns-clause-ok
 returns-clause-ok c =

@@ -1,4 +1,0 @@
-use Rattle.reach.proofs.tests.a_chain_leads_on_and_not_back.Given as goal
-
-abbrev pub ghosts-search_chain : goal.ghosts-search_chain
-ghosts-search_chain g a = record { name = a.blank.name; parts = a.blank.parts }

@@ -1,4 +1,0 @@
-use Rattle.reach.proofs.tests.the_empty_history_knows_no_event.Given as goal
-
-abbrev pub ghosts-ask : goal.ghosts-ask
-ghosts-ask g a = record { name = a.blank.name; parts = a.blank.parts }
