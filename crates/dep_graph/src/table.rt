@@ -4,7 +4,7 @@
 //! memory. An event that is taken out leaves its place empty: a removal costs one look-up. Places are closed up by
 //! `reserve` once more are empty than not, so that there are never many more places than events.
 
-ghost use Rattle.std.specs.Prelude.{◌≡◌, ◌<◌, ◌≤◌, ◌+◌, ℕ, [], ◌∷◌, ◌++◌, length, Some, IfSome, IfNone, IsSome, OnOk, slice_get, map};
+ghost use Rattle.std.specs.Prelude.{◌≡◌, ◌<◌, ◌≤◌, ◌+◌, ℕ, true, [], ◌∷◌, ◌++◌, length, Some, IfSome, IfNone, IsSome, OnOk, slice_get, map};
 ghost use Rattle.std.specs.Prelude.{vec_len, vec_capacity};
 ghost use Rattle.std.specs.List.{All, AllPairs};
 ghost use Rattle.dep_graph.specs.Table.{AreRising, number_of, with_number, entries_without};
@@ -46,12 +46,27 @@ impl Model for EventTable {
     ghost invariant = { λ t. ArePlaces t.places.items t.filled };
 }
 
-// The index of the event's place, if it has one.
+// Whether the place with this index is the event's.
+fn is_at(places: &[Place], event: u64, i: usize) -> bool
+    ensures { result ≡ true → IsPlaceAt places.now event i }
+{
+    match places.get(i) {
+        Some(place) => place.event == event,
+        None => false,
+    }
+}
+
+// The index of the event's place, if it has one. Where no place was ever closed up, that of an event with number n is
+// n - 1, for events are numbered from 1 on: this one is looked at first.
 fn place_of(places: &[Place], event: u64) -> Option<usize>
     requires { ArePlacesRising places.now }
     ensures found { IfSome result (IsPlaceAt places.now event) }
     ensures none { IfNone result (All (λ place. place.event ≡ event → ⊥) places.now) }
 {
+    let guess = event.wrapping_sub(1) as usize;
+    if is_at(places, event, guess) {
+        return Some(guess);
+    }
     match places.binary_search_by_key(&event, |place| place.event) {
         Ok(i) => Some(i),
         Err(_) => None,

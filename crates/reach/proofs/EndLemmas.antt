@@ -1,10 +1,12 @@
 -- Where a search ends: what it has found is what is behind its event, and its steps are few.
 use Rattle.std.proofs.Common.{◌≡◌, ℕ, ◌+◌, ◌*◌, ◌<◌, ◌≤◌, Bool, true, false, cond, eqb, ◌&&◌, ◌||◌, List, [], ◌∷◌, ◌++◌, length, map, take, get_or, refl, sym, ap, ◌∙◌, subst, inl, inr, arith, length-append, mul-add, mul-le-mul_right, mul-one}
+use native.Mathlib.Numerals.{unary_clauses}
 use Rattle.std.specs.Prelude.{Some, IsSome, is_some, unwrap_or, reverse}
-use Rattle.std.specs.List.{AllByRecursion, IsDistinct, filter, sum_by}
+use Rattle.std.specs.List.{All, AllByRecursion, IsDistinct, filter, sum_by}
 use Rattle.std.proofs.lemmas.Bool.{and_parts, both_ways, eq-eqb, eqb-true, false_from_ne_true, or_cases, or_left}
 use Rattle.std.proofs.lemmas.Cmp.{nat_eq_equiv}
-use Rattle.std.proofs.lemmas.List.{get_or-append-add, length-map, length-reverse, take_all}
+use Rattle.std.proofs.lemmas.List.{get_or-append-add, get_or-map, length-map, length-reverse, take_all}
+use Rattle.std.proofs.lemmas.List.Folds.{list_any_at}
 use Rattle.std.proofs.lemmas.List.Elements.{All-append, recursion_from_All}
 use Rattle.std.proofs.lemmas.List.Sums.{sum_by-cons}
 use Rattle.std.proofs.lemmas.Map.Made.{length-le_from_is_member}
@@ -200,3 +202,23 @@ steps_bound graph cells from to n extra is placed taken few =
     let le = cells-le graph cells is placed in
     let product : n * extra ≤ held * extra = mul-le-mul_right extra (omega arith) in
     omega (arith, le, product, steps_of-le graph cells is placed, mul-add held 1 extra, mul-one held)
+
+-- no path leads to an event to which no pair leads
+pub reach-source : (order : List (ℕ × ℕ)) (a goal : ℕ) → All (λ pair. eqb pair.1 goal ≡ false) order → reach order a goal ≡ false
+reach-source order a goal none = never_reached order a goal (a ∷ seconds) followed (or_left (eqb a a) (is_in seconds a) (eq-eqb a a refl))
+  where
+    seconds : List ℕ
+    seconds = map (λ pair. pair.1) order
+
+    behind : (d k : ℕ) → get_or (a ∷ seconds) (k + 1) d ≡ get_or seconds k d
+    behind d k = simp unary_clauses refl
+
+    followed : AreFollowed order goal (a ∷ seconds) (a ∷ seconds)
+    followed k d below =
+        record {
+          on = λ is.
+              record {
+                there = list_any_at (eqb (get_or order k d).1) (a ∷ seconds) (k + 1) d.1 (omega (arith, below, length-map order (λ (pair : ℕ × ℕ). pair.1))) (eq-eqb (get_or order k d).1 (get_or (a ∷ seconds) (k + 1) d.1) (sym (behind d.1 k ∙ get_or-map (λ (pair : ℕ × ℕ). pair.1) order k d d.1 below)));
+                other = none k d below;
+              };
+        }

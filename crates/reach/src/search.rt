@@ -1,6 +1,6 @@
 //! Whether a path of pairs leads from one event to another.
 
-ghost use Rattle.std.specs.Prelude.{◌≡◌, ◌<◌, ◌≤◌, ◌+◌, ◌*◌, ◌++◌, true, false, length, take};
+ghost use Rattle.std.specs.Prelude.{◌≡◌, ◌<◌, ◌≤◌, ◌+◌, ◌*◌, ◌++◌, ◌==◌, ℕ, true, false, length, take};
 ghost use Rattle.std.specs.List.{All};
 ghost use Rattle.kr_order.specs.Prefix.{IsPrefix};
 ghost use Rattle.kr_order.specs.Order.{reach};
@@ -56,9 +56,29 @@ fn search<L: Ledger>(
     false
 }
 
-// Whether a path of the graph's pairs and of more leads from `a` to `b`. The graph's pairs are searched first; where
+// Whether one of the pairs leads to the goal.
+fn lead_to(pairs: &[(EventId, EventId)], goal: EventId) -> bool
+    ensures { result ≡ false → All (λ pair. (pair.1 == goal.0) ≡ false) (numbered pairs.now) }
+{
+    for pair in pairs {
+        if pair.1.0 == goal.0 {
+            return true;
+        }
+    }
+    false
+}
+
+// Whether no pair leads to the goal: neither one of the graph nor one of the others.
+fn is_source(graph: &Graph, extra: &[(EventId, EventId)], goal: EventId) -> bool
+    requires { is_held graph.now.vertices goal.0 ≡ true }
+    ensures { result ≡ true → (a : ℕ) → reach (graph.now.pairs ++ numbered extra.now) a goal.0 ≡ false }
+{
+    graph.in_count(goal) == 0 && !lead_to(extra, goal)
+}
+
+// Searches for a path of the graph's pairs and of more from `a` to `b`. The graph's pairs are searched first; where
 // they end, each of the others is followed once, and where one finds an event, the search goes on from there.
-fn has_path<L: Ledger>(
+fn walk<L: Ledger>(
     graph: &Graph,
     extra: &[(EventId, EventId)],
     found: &mut Found,
@@ -89,6 +109,32 @@ fn has_path<L: Ledger>(
         }
     }
     false
+}
+
+// Whether a path of the graph's pairs and of more leads from `a` to `b`. No event is taken up where no pair leads to `b`.
+fn has_path<L: Ledger>(
+    graph: &Graph,
+    extra: &[(EventId, EventId)],
+    found: &mut Found,
+    a: EventId,
+    b: EventId,
+    steps: &mut Steps<L>,
+) -> bool
+    requires fits { length graph.now.slots ≤ found.old.room }
+    requires a { is_held graph.now.vertices a.0 ≡ true }
+    requires b { is_held graph.now.vertices b.0 ≡ true }
+    requires extra { All (AreHeld graph.now.vertices) extra.now }
+    ensures value { result ≡ reach (graph.now.pairs ++ numbered extra.now) a.0 b.0 }
+    ensures least { steps.old < steps.new }
+    ensures most { steps.new
+        ≤ steps.old + (length graph.now.vertices * (1 + length extra.now) + length graph.now.pairs) }
+    ensures room { found.new.room ≡ found.old.room }
+{
+    if is_source(graph, extra, b) {
+        steps.tick(); // the goal is looked at
+        return false;
+    }
+    walk(graph, extra, found, a, b, steps)
 }
 
 /// Whether a path of the graph's pairs leads from `a` to `b`. It takes no memory.

@@ -7,7 +7,7 @@ use Rattle.reach.specs.Finds.{with}
 use Rattle.reach.specs.Search.{numbered}
 use Rattle.reach.specs.Walk.{event_of, events_of, steps_of}
 use Rattle.reach.proofs.EndLemmas.{IsUnderWay-first, IsUnderWay-more, reach-met, reach-met_extra, reach-ended, steps_bound}
-use Rattle.reach.proofs.search.has_path.Goals as goal
+use Rattle.reach.proofs.search.walk.Goals as goal
 
 pub loop-next-init : goal.loop-next-init
 loop-next-init g c =

@@ -2,7 +2,7 @@ use Rattle.std.proofs.Common.{◌≡◌, ◌<◌, ◌≤◌, ◌+◌, ◌-◌, �
 use Rattle.reach.specs.Search.{numbered}
 use Rattle.reach.specs.Walk.{events_of, steps_of}
 use Rattle.reach.proofs.EndLemmas.{IsUnderWay}
-use Rattle.reach.proofs.search.has_path.Given as goal
+use Rattle.reach.proofs.search.walk.Given as goal
 
 abbrev pub invariant-loop-next : goal.invariant-loop-next
 invariant-loop-next g l = record {
