@@ -1,0 +1,16 @@
+pub mod FirstLemmas
+pub mod StepLemmas
+pub mod LatestLemmas
+pub mod PairLemmas
+pub mod OrderLemmas
+pub mod ClockLemmas
+pub mod WalkLemmas
+pub mod ReadLemmas
+pub mod LinkLemmas
+pub mod BeforeLemmas
+pub mod ClockedLemmas
+pub mod BringLemmas
+pub mod OnceLemmas
+pub mod GatherLemmas
+pub mod ReplayLemmas
+pub mod ImportLemmas

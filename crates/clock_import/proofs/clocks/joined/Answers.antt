@@ -1,0 +1,10 @@
+use Rattle.std.proofs.Common.{◌+◌, ◌∷◌, ◌++◌, [], sym, ap, ◌∙◌, arith}
+use Rattle.std.specs.Prelude.{map}
+use Rattle.std.specs.List.{range_with_len}
+use Rattle.std.proofs.lemmas.List.FromFn.{map-range_with_len_more}
+use Rattle.clock_import.specs.Joins.{joined_at}
+use Rattle.clock_import.proofs.clocks.joined.Goals as goal
+
+pub loop-i-preserved : goal.loop-i-preserved
+loop-i-preserved c =
+    c.in_ok-push.ensures.ok ∙ ap (λ l. l ++ c.joined_at.result ∷ []) c.loop-i.invariant ∙ ap (λ v. map (joined_at c.args.process c.args.link.now c.args.events.now) (range_with_len 1 c.loop-i.i) ++ v ∷ []) c.joined_at.ensures ∙ sym (map-range_with_len_more (joined_at c.args.process c.args.link.now c.args.events.now) 1 c.loop-i.i (c.loop-i.i + 1) (omega arith))

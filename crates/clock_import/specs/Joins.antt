@@ -1,0 +1,23 @@
+-- How a clock is made of others.
+use Rattle.std.specs.Prelude.{ℕ, ◌-◌, ◌==◌, max, if◌then◌else◌, List, [], slice_index, slice_index_or, Option, None, Some}
+use Rattle.clock_import.specs.declared.imported.Clocked.{Clocked}
+use Rattle.clock_import.specs.declared.links.Link.{Link}
+
+-- the clock at the index; none where there is none
+abbrev pub clock_at : List Clocked → ℕ → List ℕ
+clock_at events i = (slice_index_or events i (record { process = 0; clock = [] })).clock
+
+-- the number of the process, from 1, in a clock
+abbrev pub part_in : List ℕ → ℕ → ℕ
+part_in clock process = slice_index clock (process - 1)
+
+-- that in the clock of an event
+abbrev pub part_of : List Clocked → Option ℕ → ℕ → ℕ
+part_of events None process = 0
+part_of events (Some e) process = part_in (clock_at events e) process
+
+-- the number of the process p in the clock of an event with this link
+abbrev pub joined_at : ℕ → Link → List Clocked → ℕ → ℕ
+joined_at process link events p =
+    let most = max (part_of events link.prior p) (part_of events link.source p) in
+    if p == process then max most link.number else most

@@ -1,0 +1,14 @@
+pub mod Log
+pub mod Reading
+pub mod Messages
+pub mod Read
+pub mod Pairs
+pub mod Links
+pub mod Walk
+pub mod Clocks
+pub mod Joins
+pub mod Imported
+pub mod Laws
+pub mod Text
+pub mod Commands
+pub mod Rows

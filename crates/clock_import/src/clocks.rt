@@ -1,0 +1,104 @@
+//! The vector clocks of events.
+
+ghost use Rattle.std.specs.Prelude.{◌≡◌, [], map, length, IfOk};
+ghost use Rattle.std.specs.List.{range_with_len};
+ghost use Rattle.clock_import.specs.Log.{IsLog};
+ghost use Rattle.clock_import.specs.Links.{AreLinks};
+ghost use Rattle.clock_import.specs.Walk.{IsOrder};
+ghost use Rattle.clock_import.specs.Clocks.{clocks_of_log};
+ghost use Rattle.clock_import.specs.Joins.{joined_at, part_of};
+
+use crate::links::Link;
+use crate::log::LogLine;
+use crate::{Clock, Clocked, Clockeds};
+use kr_order::NoMemory;
+use std::alloc::Global;
+
+// The events with their clocks, in the order of the lines. Each clock is made of those of the events that lead to its
+// event, which stand before it in the order.
+pub(crate) fn clocks_of(
+    alloc: Global,
+    processes: u32,
+    lines: &[LogLine],
+    links: &[Link],
+    order: &[usize],
+) -> Result<Clockeds, NoMemory>
+    requires log { IsLog processes lines.now }
+    requires links { AreLinks lines.now links.now }
+    requires order { IsOrder links.now (length lines.now) order.now }
+    ensures { IfOk result (λ events. events ≡ clocks_of_log processes lines.now) }
+{
+    let mut events = without_clocks(alloc, lines)?;
+    for e in order {
+        let link = &links[*e];
+        let process = lines[*e].process;
+        let clock = joined(alloc, processes, process, link, events.as_slice())?;
+        events[*e].clock = clock;
+    }
+    Ok(Clockeds::from_vec(events))
+}
+
+// The events, with empty clocks.
+fn without_clocks(alloc: Global, lines: &[LogLine]) -> Result<Vec<Clocked>, NoMemory>
+    ensures { IfOk result (λ events. events.items ≡ map (λ entry. record { process = entry.process; clock = [] }) lines.now) }
+{
+    let mut events = Vec::new(alloc);
+    for entry in lines {
+        events.push(Clocked {
+            process: entry.process,
+            clock: Clock::new(alloc),
+        })?;
+    }
+    Ok(events)
+}
+
+// The clock of an event of the process with this link: the greatest numbers of those of the events that lead to it,
+// and of its own number among the events of its process.
+fn joined(
+    alloc: Global,
+    processes: u32,
+    process: u32,
+    link: &Link,
+    events: &[Clocked],
+) -> Result<Clock, NoMemory>
+    ensures { IfOk result (λ clock. clock
+        ≡ map (joined_at process link.now events.now) (range_with_len 1 processes)) }
+{
+    let mut clock = Clock::new(alloc);
+    for i in 0..processes {
+        clock.push(joined_at(process, link, events, i + 1))?;
+    }
+    Ok(clock)
+}
+
+// Its number for the process p.
+fn joined_at(process: u32, link: &Link, events: &[Clocked], p: u32) -> u64
+    ensures { result ≡ joined_at process link.now events.now p }
+{
+    let most = part_of(events, link.prior, p).max(part_of(events, link.source, p));
+    if p == process {
+        most.max(link.number)
+    } else {
+        most
+    }
+}
+
+// The number of the process in the clock of the event, if there is one.
+pub(crate) fn part_of(events: &[Clocked], event: Option<usize>, process: u32) -> u64
+    ensures { result ≡ part_of events.now event process }
+{
+    match event {
+        Some(e) => match events.get(e) {
+            Some(clocked) => match clocked
+                .clock
+                .as_slice()
+                .get((process as usize).saturating_sub(1))
+            {
+                Some(part) => *part,
+                None => 0,
+            },
+            None => 0,
+        },
+        None => 0,
+    }
+}

@@ -1,0 +1,96 @@
+//! The text of an import.
+
+ghost use Rattle.std.specs.Prelude.{◌≡◌, ◌++◌, ◌+◌, ◌^◌, ◌<◌, flat_map, codes, OnOk};
+ghost use Rattle.std.specs.Fmt.{decimal};
+ghost use Rattle.clock_import.specs.Text.{clock_text, event_line, event_lines, pair_line, import_text};
+
+use crate::{Clocked, Imported};
+use kr_order::{EventId, NoMemory};
+use kr_text::put_number;
+
+/// Puts a line for each event, as `event 3 p2 clock 1,1`, then `pairs N` and a line `a!b` for each pair, and then `end`
+/// behind what `out` holds. After `NoMemory` a part of that may stand there.
+pub fn put_import(out: &mut Vec<u8>, imported: &Imported) -> Result<(), NoMemory>
+    ensures { OnOk result (out.new.items ≡ out.old.items ++ import_text imported.now) }
+{
+    put_events(out, imported.events.as_slice())?;
+    put_text(out, b"pairs ")?;
+    put_number(out, imported.pairs.len() as u64)?;
+    put_text(out, b"\n")?;
+    put_pairs(out, imported.pairs.as_slice())?;
+    put_text(out, b"end\n")
+}
+
+// The text.
+fn put_text(out: &mut Vec<u8>, text: &[u8]) -> Result<(), NoMemory>
+    ensures { OnOk result (out.new.items ≡ out.old.items ++ text.now) }
+{
+    out.extend_from_slice(text)?;
+    Ok(())
+}
+
+// The lines of the events.
+fn put_events(out: &mut Vec<u8>, events: &[Clocked]) -> Result<(), NoMemory>
+    ensures { OnOk result (out.new.items ≡ out.old.items ++ event_lines 1 events.now) }
+{
+    for (i, clocked) in events.iter().enumerate() {
+        put_event(out, i, clocked)?;
+    }
+    Ok(())
+}
+
+// The line of the event at the index.
+fn put_event(out: &mut Vec<u8>, i: usize, clocked: &Clocked) -> Result<(), NoMemory>
+    requires { i + 1 < 2 ^ 64 }
+    ensures { OnOk result (out.new.items ≡ out.old.items ++ event_line (i + 1) clocked.now) }
+{
+    put_text(out, b"event ")?;
+    put_number(out, i as u64 + 1)?;
+    put_text(out, b" p")?;
+    put_number(out, u64::from(clocked.process))?;
+    put_text(out, b" clock ")?;
+    put_clock(out, clocked.clock.as_slice())?;
+    put_text(out, b"\n")
+}
+
+// The numbers of the clock, with a comma between two.
+fn put_clock(out: &mut Vec<u8>, clock: &[u64]) -> Result<(), NoMemory>
+    ensures { OnOk result (out.new.items ≡ out.old.items ++ clock_text clock.now) }
+{
+    let [part, parts @ ..] = clock else {
+        return Ok(());
+    };
+    put_number(out, *part)?;
+    put_parts(out, parts)
+}
+
+// The numbers, with a comma before each.
+fn put_parts(out: &mut Vec<u8>, parts: &[u64]) -> Result<(), NoMemory>
+    ensures { OnOk result (out.new.items ≡ out.old.items ++ flat_map (λ part. codes "," ++ decimal part) parts.now) }
+{
+    for part in parts {
+        put_text(out, b",")?;
+        put_number(out, *part)?;
+    }
+    Ok(())
+}
+
+// The lines of the pairs.
+fn put_pairs(out: &mut Vec<u8>, pairs: &[(EventId, EventId)]) -> Result<(), NoMemory>
+    ensures { OnOk result (out.new.items ≡ out.old.items ++ flat_map pair_line pairs.now) }
+{
+    for pair in pairs {
+        put_pair(out, pair)?;
+    }
+    Ok(())
+}
+
+// The line of a pair.
+fn put_pair(out: &mut Vec<u8>, pair: &(EventId, EventId)) -> Result<(), NoMemory>
+    ensures { OnOk result (out.new.items ≡ out.old.items ++ pair_line pair.now) }
+{
+    put_number(out, pair.0.0)?;
+    put_text(out, b"!")?;
+    put_number(out, pair.1.0)?;
+    put_text(out, b"\n")
+}
