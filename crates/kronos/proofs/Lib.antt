@@ -1,4 +1,0 @@
-mod RunLemmas
-mod EndsLemmas
-mod LoadLemmas
-mod FormLemmas

@@ -1,5 +1,1 @@
-pub mod Exits
-pub mod Ends
-pub mod Forms
-pub mod Runs
-pub mod Loads
+pub mod Complaints

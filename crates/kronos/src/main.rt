@@ -4,17 +4,12 @@
 //! was written, and why it came.
 #![tactic(auto)]
 
-mod exit;
-mod form;
-mod load;
-mod run;
-mod script;
-#[cfg(test)]
-mod tests;
+ghost use Rattle.std.specs.Prelude.{◌≡◌, map, drop, option_map, string_bytes, IfOk};
+ghost use Rattle.std.specs.Rc.{rc_str_bytes};
+ghost use Rattle.kronos.specs.Complaints.{complaint_of};
 
-use exit::Exit;
 use kr_text::{StdSink, StdSource};
-use script::kronos_script;
+use kronos_driver::{Exit, kronos_script};
 use std::alloc::{AllocError, Global};
 use std::env::Env;
 use std::process::ExitCode;
@@ -24,20 +19,35 @@ use std::{env, io};
 // The words after the program's name. Arguments that are not UTF-8 are words that are no form: none is taken then.
 fn words(rt: &(impl Env + AllocGlobal)) -> Result<Vec<RcStr>, Exit> {
     let alloc = rt.alloc();
-    let args = match env::args(rt) {
-        Ok(args) => args,
+    let mut arguments = Vec::new(alloc);
+    match env::args(rt) {
+        Ok(args) => {
+            for arg in args {
+                arguments.push(arg)?;
+            }
+        }
         Err(error) if error.kind() == io::ErrorKind::OutOfMemory => return Err(Exit::NoMemory),
-        Err(_) => return Ok(Vec::new(alloc)),
-    };
+        Err(_) => {}
+    }
+    Ok(words_of(alloc, arguments.as_slice())?)
+}
+
+// The words of the arguments, of which the first is the program's name.
+fn words_of(alloc: Global, arguments: &[String]) -> Result<Vec<RcStr>, AllocError>
+    ensures { IfOk result (λ words. map rc_str_bytes words.items ≡ map string_bytes (drop 1 arguments.now)) }
+{
     let mut words = Vec::new(alloc);
-    for arg in args.skip(1) {
-        words.push(RcStr::from_string(arg)?)?;
+    let rest = arguments.split_at(arguments.len().min(1)).1;
+    for argument in rest {
+        words.push(RcStr::from_str(alloc, argument.as_str())?)?;
     }
     Ok(words)
 }
 
 // What is said on the error stream of an end that the output does not tell.
-fn complaint(exit: Exit) -> Option<&'static str> {
+fn complaint(exit: Exit) -> Option<&'static str>
+    ensures { option_map (λ text. text.now) result ≡ complaint_of exit }
+{
     match exit {
         Exit::TooLong => Some("the input has more than 1,048,576 bytes"),
         Exit::ReadFault => Some("the input could not be read"),

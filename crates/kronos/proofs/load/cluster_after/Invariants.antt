@@ -1,5 +1,0 @@
-use Rattle.kronos.proofs.LoadLemmas.{IsUnderway}
-use Rattle.kronos.proofs.load.cluster_after.Given as goal
-
-abbrev pub invariant-loop-event : goal.invariant-loop-event
-invariant-loop-event g l = IsUnderway l.script l.event-index l.cluster

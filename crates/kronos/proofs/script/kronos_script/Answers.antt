@@ -1,8 +1,0 @@
-use Rattle.kronos.proofs.EndsLemmas.{served_is_done, load_is_done}
-use Rattle.kronos.proofs.script.kronos_script.Goals as goal
-
-pub returns-clause-complete : goal.returns-clause-complete
-returns-clause-complete g c = λ served. served_is_done c.bad_lines_are_in_no_script.ensures c.run_words.result _ _ _ c.run_words.ensures served
-
-pub returns-clause-complete_load : goal.returns-clause-complete_load
-returns-clause-complete_load g c = λ served. load_is_done c.run_words.result _ _ _ c.run_words.ensures served

@@ -1,9 +1,0 @@
-use Rattle.std.proofs.Common.{subst}
-use Rattle.kronos.specs.Ends.{EndsOnBytes}
-use Rattle.kronos.proofs.EndsLemmas.{ends_on_bytes}
-use Rattle.kronos.proofs.script.run_input.Goals as goal
-
-pub returns : goal.returns
-returns g c = λ words form.
-    let ends = subst (λ bs. EndsOnBytes c.run_bytes.result bs (g.K.Sink.held c.args.sink.now) (g.K.Sink.held c.run_bytes.new.sink) (g.K.Sink.faults c.args.sink.now) (g.K.Sink.faults c.run_bytes.new.sink)) c.as_slice.ensures.value c.run_bytes.ensures in
-    ends_on_bytes c.run_bytes.result words _ _ c.in-Ok.bytes.items (record { form = form; whole = c.in-Ok.ensures.reads; calm = c.in-Ok.ensures.faults }) ends

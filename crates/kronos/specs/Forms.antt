@@ -1,9 +1,0 @@
--- What the words of a call ask for.
-use Rattle.std.specs.Prelude.{ℕ, List}
-use Rattle.kronos.specs.declared.form.Form.{Form}
-use Rattle.kronos.specs.declared.form.Form.TheVariants.{Script, Load}
-use Rattle.kronos.specs.Ends.{AskForScript, AskForLoad}
-
-abbrev pub AskFor : Form → List (List ℕ) → Type 0
-AskFor Script words = AskForScript words
-AskFor (Load rounds) words = AskForLoad rounds words

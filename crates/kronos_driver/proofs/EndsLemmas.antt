@@ -1,0 +1,100 @@
+-- How the ends of the program follow from those of its parts, and that a served call is done.
+use Rattle.std.proofs.Common.{◌≡◌, ℕ, ◌≤◌, ◌⊎◌, inl, inr, List, ◌++◌, [], ◌∷◌, length, refl, sym, ap, ◌∙◌, subst, arith}
+use Rattle.std.specs.Prelude.{codes, Option, None, Some}
+use Rattle.std.specs.Fmt.{decimal}
+use Rattle.std.specs.Io.KnownBytes.{Consumes, IsAtEnd}
+use Rattle.std.proofs.lemmas.List.{length-append, append-nil}
+use Rattle.kr_text.specs.Causes.{Rose}
+use Rattle.kr_text.specs.Reads.{GaveAll, GaveSome}
+use Rattle.script_lang.specs.Script.{Parses}
+use Rattle.script_lang.specs.Laws.{BadLinesAreInNoScript}
+use Rattle.kronos_runs.specs.declared.exit.Exit.{Exit}
+use Rattle.kronos_runs.specs.declared.exit.Exit.TheVariants.{Done, Usage, BadLine, TooLong, ReadFault, WriteFault, NoMemory}
+use Rattle.kronos_runs.specs.EndsOn.{EndsOnBytes}
+use Rattle.kronos_driver.specs.Ends.{Outside, AskForScript, AskForLoad, HasRead, Ends, IsLoadServed, FailedToWrite, HasBadLine, IsTooLong, IsServed, input_limit}
+
+some_of_all : (left left' : Option (List ℕ)) (bytes : List ℕ) → GaveAll input_limit left left' bytes → GaveSome input_limit left left'
+some_of_all left left' bytes all = record { bytes = bytes; taken = all.taken; fits = all.fits }
+
+-- an end after the whole input was read
+pub ends_on_bytes : (exit : Exit) (words : List (List ℕ)) (before after : Outside) (bytes : List ℕ) → HasRead words before after bytes → EndsOnBytes exit bytes before.held after.held before.writes after.writes → Ends exit words before after
+ends_on_bytes Done words before after bytes read ran =
+    inl (record { bytes = bytes; text = ran.0; read = read; run = ran.1; written = ran.2; calm = ran.3 })
+ends_on_bytes Usage words before after bytes read never = absurd never
+ends_on_bytes (BadLine n) words before after bytes read refused =
+    record { bytes = bytes; text = refused.0; read = read; refused = refused.1; written = refused.2; calm = refused.3 }
+ends_on_bytes TooLong words before after bytes read never = absurd never
+ends_on_bytes ReadFault words before after bytes read never = absurd never
+ends_on_bytes WriteFault words before after bytes read took =
+    inl (inr (took.0, record { bytes = bytes; read = read; due = took.1 }, took.2))
+ends_on_bytes NoMemory words before after bytes read lacks =
+    inl (record {
+      form = read.form;
+      given = some_of_all before.left after.left bytes read.whole;
+      calm = record { reads = read.calm; writes = lacks.0 };
+      written = elim lacks.1 [
+        | inl kept ↦ inl kept
+        | inr front ↦ inr (front.0, record { bytes = bytes; read = read; due = front.1 }, front.2)
+      ];
+    })
+
+-- a source that is read to its end gave all that it had
+all_given : (input : List ℕ) (left' : Option (List ℕ)) (bytes : List ℕ) → Consumes (Some input) left' bytes → IsAtEnd left' → input ≡ bytes
+all_given input None bytes taken ended = absurd taken
+all_given input (Some rest) bytes taken ended = taken ∙ ap (λ r. bytes ++ r) ended ∙ append-nil bytes
+
+-- a source gives no more than it had
+no_more_given : (input : List ℕ) (left' : Option (List ℕ)) (bytes : List ℕ) → Consumes (Some input) left' bytes → length bytes ≤ length input
+no_more_given input None bytes taken = absurd taken
+no_more_given input (Some rest) bytes taken = omega (arith, ap length taken, length-append bytes rest)
+
+no_bad_line : BadLinesAreInNoScript → (n : ℕ) (words : List (List ℕ)) (before after : Outside) → IsServed words before after → HasBadLine n words before after → ⊥
+no_bad_line law n words before after served bad =
+    let whole = bad.read.whole in
+    let taken : Consumes (Some served.bytes) after.left bad.bytes = subst (λ l. Consumes l after.left bad.bytes) served.told whole.taken in
+    let same : served.bytes ≡ bad.bytes = all_given served.bytes after.left bad.bytes taken whole.ended in
+    law bad.bytes n served.script bad.refused.bad (subst (λ bs. Parses bs served.script) same served.parses)
+
+not_too_long : (words : List (List ℕ)) (before after : Outside) → IsServed words before after → IsTooLong words before after → ⊥
+not_too_long words before after served long =
+    let taken : Consumes (Some served.bytes) after.left long.over.bytes = subst (λ l. Consumes l after.left long.over.bytes) served.told long.over.taken in
+    let fits = served.fits in
+    let over = long.over.over in
+    absurd (omega (arith, no_more_given served.bytes after.left long.over.bytes taken))
+
+-- where the sink counts no fault, no write of a script's run failed
+no_fault : (words : List (List ℕ)) (before after : Outside) → (Rose before.writes after.writes → ⊥) → FailedToWrite words before after → ⊥
+no_fault words before after calm failed =
+    elim failed [ inl usage ↦ calm usage.1.rose | inr due ↦ calm due.2.rose ]
+
+-- a call that is served is done, or finds no memory
+pub served_is_done : BadLinesAreInNoScript → (exit : Exit) (words : List (List ℕ)) (before after : Outside) → Ends exit words before after → IsServed words before after → (exit ≡ Done) ⊎ (exit ≡ NoMemory)
+served_is_done law Done words before after ends served = inl refl
+served_is_done law Usage words before after ends served = absurd (ends.none.no_form (inl served.form))
+served_is_done law (BadLine n) words before after ends served = absurd (no_bad_line law n words before after served ends)
+served_is_done law TooLong words before after ends served = absurd (not_too_long words before after served ends)
+served_is_done law ReadFault words before after ends served = absurd (served.read ends.rose)
+served_is_done law WriteFault words before after ends served =
+    absurd (elim ends [ inl failed ↦ no_fault words before after served.written failed | inr load ↦ served.written load.took.rose ])
+served_is_done law NoMemory words before after ends served = inr refl
+
+-- words for a load are none for a script
+not_both : (rounds : ℕ) (words : List (List ℕ)) → AskForLoad rounds words → AskForScript words → ⊥
+not_both rounds words load script =
+    let both : codes "load" ∷ decimal rounds ∷ [] ≡ codes "script" ∷ [] = sym load.words_are ∙ script in
+    cc
+
+-- so is a load that is served
+pub load_is_done : (exit : Exit) (words : List (List ℕ)) (before after : Outside) → Ends exit words before after → IsLoadServed words before after → (exit ≡ Done) ⊎ (exit ≡ NoMemory)
+load_is_done Done words before after ends served = inl refl
+load_is_done Usage words before after ends served = absurd (ends.none.no_form (inr (served.rounds, served.form)))
+load_is_done (BadLine n) words before after ends served = absurd (not_both served.rounds words served.form ends.read.form)
+load_is_done TooLong words before after ends served = absurd (not_both served.rounds words served.form ends.form)
+load_is_done ReadFault words before after ends served = absurd (not_both served.rounds words served.form ends.form)
+load_is_done WriteFault words before after ends served =
+    absurd (elim ends [ inl failed ↦ no_fault words before after served.written failed | inr load ↦ served.written load.took.rose ])
+load_is_done NoMemory words before after ends served = inr refl
+
+-- a count that is always 0 does not rise
+pub never_rose : Rose 0 0 → ⊥
+never_rose rose = absurd (omega (arith, rose))

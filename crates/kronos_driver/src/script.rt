@@ -1,0 +1,88 @@
+//! The top call: words, whole input, its lines, and the run.
+
+ghost use Rattle.std.specs.Prelude.{◌≡◌, ◌⊎◌, ℕ, List, map};
+ghost use Rattle.std.specs.Rc.{rc_str_bytes};
+ghost use Rattle.kronos_driver.specs.Ends.{Ends, AskForScript, IsServed, IsLoadServed};
+
+use crate::form::{Form, form_of};
+use kr_text::{ReadStop, Sink, Source, WriteStop, read_all, write_all};
+use kronos_runs::{Exit, run_load, run_script};
+use std::alloc::Global;
+use std::rc::RcStr;
+use std::thread::Threads;
+
+// The greatest number of bytes of an input.
+const INPUT_LIMIT: usize = 1_048_576;
+
+// What is written where the words are no form.
+const USAGE: &[u8] = b"usage: kronos script, load N, live, audit, import, chain\n";
+
+/// Runs the program: with the word `script` it reads the whole source as a script, of at most 1,048,576 bytes,
+/// runs it step by step, and writes its transcript; with the words `load N` it reads nothing, runs the load of N
+/// rounds, 1 to 2,000, and writes its summary. Any other words are no form. The answer is the first refusal that is
+/// met, in the order words, input, lines, run.
+pub fn kronos_script<R: Threads + Sync, S: Source, K: Sink>(
+    rt: &R,
+    alloc: Global,
+    words: &[RcStr],
+    source: &mut S,
+    sink: &mut K,
+) -> Exit
+    ensures ends { Ends result (map rc_str_bytes words.now)
+        (record { left = S.left source.old; reads = S.faults source.old; held = K.held sink.old; writes = K.faults sink.old })
+        (record { left = S.left source.new; reads = S.faults source.new; held = K.held sink.new; writes = K.faults sink.new }) }
+    ensures complete { IsServed (map rc_str_bytes words.now)
+        (record { left = S.left source.old; reads = S.faults source.old; held = K.held sink.old; writes = K.faults sink.old })
+        (record { left = S.left source.new; reads = S.faults source.new; held = K.held sink.new; writes = K.faults sink.new })
+        → (result ≡ Exit.Done) ⊎ (result ≡ Exit.NoMemory) }
+    ensures complete_load { IsLoadServed (map rc_str_bytes words.now)
+        (record { left = S.left source.old; reads = S.faults source.old; held = K.held sink.old; writes = K.faults sink.old })
+        (record { left = S.left source.new; reads = S.faults source.new; held = K.held sink.new; writes = K.faults sink.new })
+        → (result ≡ Exit.Done) ⊎ (result ≡ Exit.NoMemory) }
+{
+    // a proof step: the law does nothing when it runs
+    script_lang::laws::bad_lines_are_in_no_script();
+    run_words(rt, alloc, words, source, sink)
+}
+
+// The same, by its ends alone.
+fn run_words<R: Threads + Sync, S: Source, K: Sink>(
+    rt: &R,
+    alloc: Global,
+    words: &[RcStr],
+    source: &mut S,
+    sink: &mut K,
+) -> Exit
+    ensures { Ends result (map rc_str_bytes words.now)
+        (record { left = S.left source.old; reads = S.faults source.old; held = K.held sink.old; writes = K.faults sink.old })
+        (record { left = S.left source.new; reads = S.faults source.new; held = K.held sink.new; writes = K.faults sink.new }) }
+{
+    match form_of(words) {
+        Some(Form::Script) => run_input(rt, alloc, source, sink),
+        Some(Form::Load(rounds)) => run_load(rt, alloc, rounds, sink),
+        None => match write_all(sink, USAGE) {
+            Ok(()) => Exit::Usage,
+            Err(WriteStop::Fault) => Exit::WriteFault,
+        },
+    }
+}
+
+// Reads the whole input and runs it.
+fn run_input<R: Threads + Sync, S: Source, K: Sink>(
+    rt: &R,
+    alloc: Global,
+    source: &mut S,
+    sink: &mut K,
+) -> Exit
+    ensures { (words : List (List ℕ)) → AskForScript words → Ends result words
+        (record { left = S.left source.old; reads = S.faults source.old; held = K.held sink.old; writes = K.faults sink.old })
+        (record { left = S.left source.new; reads = S.faults source.new; held = K.held sink.new; writes = K.faults sink.new }) }
+{
+    let bytes = match read_all(alloc, source, INPUT_LIMIT) {
+        Ok(bytes) => bytes,
+        Err(ReadStop::Fault) => return Exit::ReadFault,
+        Err(ReadStop::TooLong) => return Exit::TooLong,
+        Err(ReadStop::NoMemory) => return Exit::NoMemory,
+    };
+    run_script(rt, alloc, bytes.as_slice(), sink)
+}

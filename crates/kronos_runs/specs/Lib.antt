@@ -1,0 +1,5 @@
+pub mod Exits
+pub mod Due
+pub mod EndsOn
+pub mod Runs
+pub mod Loads
