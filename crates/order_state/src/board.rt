@@ -29,14 +29,16 @@ pub trait Board: Drop {
         ensures reply { IfOk result (λ reply. reply ≡ reply_to (stands self.old) entry.now.command) }
         ensures err { OnErr result (stands self.new ≡ stands self.old) };
 
-    /// The answers to these queries after the history, one after the other, whatever the number of workers.
+    /// The answers to these queries after the history, one after the other, whatever the number of workers. `NoMemory`
+    /// comes only where there is a query.
     fn all<R: Threads + Sync>(
         &self,
         rt: &R,
         queries: &[Query],
         workers: u32,
     ) -> Result<Vec<Told>, NoMemory>
-        ensures { IfOk result (λ told. told.items ≡ map (told_after (stands self.now)) queries.now) };
+        ensures told { IfOk result (λ told. told.items ≡ map (told_after (stands self.now)) queries.now) }
+        ensures err { OnErr result (0 < length queries.now) };
 
     /// A copy of what is kept of the client's last entry; `None` where the history has none of the client.
     fn last(&self, client: ClientId) -> Result<Option<Kept>, NoMemory>

@@ -30,7 +30,6 @@ use std::sync::ledger::Ledger;
 /// The order of the events that are held.
 #[derive(Debug, Drop)]
 pub struct Order {
-    born: u64,
     graph: Graph,
     refs: Refs,
 }
@@ -42,7 +41,7 @@ impl Model for Order {
     ghost Value = { Ordered };
 
     ghost view = { λ o. record {
-      born = o.born;
+      born = o.refs.born;
       counts = o.refs.counts;
       events = o.graph.vertices;
       pairs = o.graph.pairs;
@@ -51,7 +50,7 @@ impl Model for Order {
       pair_room = o.graph.spare_pairs;
     } };
 
-    ghost invariant = { λ o. IsOrder o.born o.refs.counts o.graph };
+    ghost invariant = { λ o. IsOrder o.refs.born o.refs.counts o.graph };
 }
 
 // Adds the pairs of the plan, if there is one, to the graph.
@@ -90,7 +89,6 @@ impl Order {
         ensures { IsOrderOf [] result }
     {
         Order {
-            born: 0,
             graph: Graph::new(alloc),
             refs: Refs::new(alloc),
         }
@@ -121,8 +119,7 @@ impl Order {
         ensures event_room { self.old.event_room ≤ self.new.event_room + 1 }
         ensures pair_room { self.old.pair_room ≤ self.new.pair_room }
     {
-        self.born += 1;
-        let id = EventId(self.born);
+        let id = EventId(self.refs.born() + 1);
         self.graph.add_vertex(id);
         self.refs.birth(id);
     }
@@ -268,7 +265,7 @@ impl Order {
     pub fn born(&self) -> u64
         ensures { result ≡ self.now.born }
     {
-        self.born
+        self.refs.born()
     }
 
     /// How many events are held.

@@ -1,10 +1,10 @@
 -- The counts of events, as the numbers of a table.
-use Rattle.std.proofs.Common.{◌≡◌, ℕ, ◌+◌, ◌-◌, ◌<◌, Bool, true, false, cond, eqb, ltb, ◌&&◌, List, [], ◌∷◌, ◌++◌, length, get_or, refl, sym, ap, ◌∙◌, subst, inl, inr, arith}
+use Rattle.std.proofs.Common.{◌≡◌, ℕ, ◌+◌, ◌-◌, ◌<◌, ◌≤◌, Bool, true, false, cond, eqb, ltb, ◌&&◌, List, [], ◌∷◌, ◌++◌, length, get_or, refl, sym, ap, ◌∙◌, subst, inl, inr, arith}
 use Rattle.std.specs.Prelude.{Option, None, Some, IsSome, is_some, map}
 use Rattle.std.specs.Option.{unwrap_or}
 use Rattle.std.specs.List.{All, AllByRecursion}
 use Rattle.std.proofs.lemmas.Bool.{both_ways, cases_eq, eq-eqb, eqb-true, ne_eqb, lt-ltb}
-use Rattle.std.proofs.lemmas.List.Elements.{All-map, All-from_recursion, recursion_from_All}
+use Rattle.std.proofs.lemmas.List.Elements.{All-map, All-weaker, All-from_recursion, recursion_from_All}
 use Rattle.dep_graph.specs.Table.{number_of, renumbered, with_number, entries_without}
 use Rattle.dep_graph.proofs.HeldLemmas.{events_of, number_of-push, number_of-without_other, number_of-without_same}
 use Rattle.dep_graph.proofs.ChangeLemmas.{is_held-above}
@@ -94,3 +94,8 @@ All-with P counts id number changed all = All-from_recursion P (with_number coun
     each : (counts : List (ℕ × ℕ)) → AllByRecursion P counts → AllByRecursion P (with_number counts id number)
     each [] all = tt
     each (entry ∷ more) all = (one entry (eqb entry.0 id) refl all.0, each more all.1)
+
+-- an event that is greater than the last that was born is greater than each
+pub All-above : (born id : ℕ) (counts : List (ℕ × ℕ)) → born < id → All (λ entry. entry.0 ≤ born) counts → All (λ entry. entry.0 < id) counts
+All-above born id counts greater latest =
+    All-weaker (λ (entry : ℕ × ℕ). entry.0 ≤ born) (λ (entry : ℕ × ℕ). entry.0 < id) (λ entry most. omega (arith, most, greater)) counts latest

@@ -1,4 +1,4 @@
-use Rattle.std.proofs.Common.{◌≡◌, ◌<◌, ℕ, cond, eqb, not, sym, ap, ◌∙◌, subst, arith}
+use Rattle.std.proofs.Common.{◌≡◌, ◌<◌, ◌≤◌, ℕ, cond, eqb, not, sym, ap, ◌∙◌, subst, arith}
 use Rattle.std.specs.List.{All}
 use Rattle.std.proofs.lemmas.List.Elements.{All-filter}
 use Rattle.dep_graph.proofs.HeldLemmas.{events_of}
@@ -16,12 +16,22 @@ set-requires c =
 
 pub invariant_of-self-else-count-gt0 : goal.invariant_of-self-else-count-gt0
 invariant_of-self-else-count-gt0 c =
-    rw c.remove.ensures.entries (All-filter (λ (entry : ℕ × ℕ). not (eqb entry.0 c.args.id.0)) (λ (entry : ℕ × ℕ). 0 < entry.1) c.self.inside.counts.entries c.self.invariant)
+    let entries = c.self.inside.counts.entries in
+    let other = λ (entry : ℕ × ℕ). not (eqb entry.0 c.args.id.0) in
+    rw c.remove.ensures.entries record {
+      live = All-filter other (λ (entry : ℕ × ℕ). 0 < entry.1) entries c.self.invariant.live;
+      latest = All-filter other (λ (entry : ℕ × ℕ). entry.0 ≤ c.self.inside.born) entries c.self.invariant.latest;
+    }
 
 pub invariant_of-self : goal.invariant_of-self
 invariant_of-self c =
     let some : 0 < c.args.count = omega (arith, c.if-count-gt0.true) in
-    rw c.set.ensures.entries (All-with (λ (entry : ℕ × ℕ). 0 < entry.1) c.self.inside.counts.entries c.args.id.0 c.args.count (λ entry same holds. some) c.self.invariant)
+    let entries = c.self.inside.counts.entries in
+    let born = c.self.inside.born in
+    rw c.set.ensures.entries record {
+      live = All-with (λ (entry : ℕ × ℕ). 0 < entry.1) entries c.args.id.0 c.args.count (λ entry same holds. some) c.self.invariant.live;
+      latest = All-with (λ (entry : ℕ × ℕ). entry.0 ≤ born) entries c.args.id.0 c.args.count (λ entry same holds. subst (λ e. e ≤ born) same holds) c.self.invariant.latest;
+    }
 
 pub returns-else-count-gt0-clause-count : goal.returns-else-count-gt0-clause-count
 returns-else-count-gt0-clause-count c event =
