@@ -1,6 +1,6 @@
 //! All waiting queries are answered, and what was found for one is told to the next.
 
-ghost use Rattle.std.specs.Prelude.{◌≡◌, ◌+◌, ◌*◌, ◌<◌, ◌≤◌, [], ◌∷◌, None, map, IfOk, OnOk};
+ghost use Rattle.std.specs.Prelude.{◌≡◌, ◌+◌, ◌*◌, ◌<◌, ◌≤◌, [], ◌∷◌, None, length, map, IfOk, OnOk, OnErr};
 ghost use Rattle.kr_order.specs.Answer.{answer_to, answers_after};
 ghost use Rattle.reach.specs.Search.{numbered};
 ghost use Rattle.query_worker.specs.Known.{number_of, known_of, AreAnswers, Learns, KnowsAlso, IsWithin};
@@ -133,7 +133,8 @@ fn told_uncounted<A: Asks, L: Ledger>(
 }
 
 /// What is told to these queries after the order's history, one after the other, whatever the number of workers: 1 to 8.
-/// For now one thread gives all answers. A pair that is asked more than once is searched for once.
+/// For now one thread gives all answers. A pair that is asked more than once is searched for once. `NoMemory` comes only
+/// where there is a query.
 pub fn answer_all<A: Asks + Sync, R: Threads>(
     _rt: &R,
     alloc: Global,
@@ -143,7 +144,11 @@ pub fn answer_all<A: Asks + Sync, R: Threads>(
 ) -> Result<Vec<Told>, NoMemory>
     requires least { 1 ≤ workers }
     requires most { workers ≤ MOST_WORKERS }
-    ensures { IfOk result (λ told. told.items ≡ map (told_after (A.history order.now)) queries.now) }
+    ensures told { IfOk result (λ told. told.items ≡ map (told_after (A.history order.now)) queries.now) }
+    ensures err { OnErr result (0 < length queries.now) }
 {
+    if queries.len() == 0 {
+        return Ok(Vec::new(alloc));
+    }
     told_uncounted::<A, Brand>(alloc, order, queries, Blank::new(1))
 }
