@@ -266,12 +266,13 @@ impl Manager {
 
     /// A server tells that the joiner has caught up: the joiner becomes the last member, and the next view is answered.
     /// `None` exactly where the server is not the last member of the current view, or the joiner is not its joiner; then,
-    /// and after `NoMemory`, nothing has changed.
+    /// and after `NoMemory`, which comes only where the joiner is to become a member, nothing has changed.
     pub fn joined(&mut self, from: ServerId, joiner: ServerId) -> Result<Option<View>, NoMemory>
         ensures view { IfOk result (λ view. IfSome view (λ view. view ≡ promoted self.old.current joiner)) }
         ensures new { IfOk result (λ view. IfSome view (λ view. self.new ≡ promotes self.old joiner)) }
         ensures none { IfOk result (λ view. IsNone view ↔ (may_promote self.old.current from joiner ≡ false)) }
         ensures same { IfOk result (λ view. IsNone view → self.new ≡ self.old) }
+        ensures due { OnErr result (may_promote self.old.current from joiner ≡ true) }
         ensures err { OnErr result (self.new ≡ self.old) }
     {
         if !may_promote(&self.current, from, joiner) {
