@@ -192,7 +192,7 @@ impl Client {
     }
 
     /// Opens a call, and answers its request, which is to be sent. `Busy` comes where a call is open, and then
-    /// nothing changes; after `NoMemory` the client has failed.
+    /// nothing changes; after `NoMemory`, which comes only where none is open or the client had failed, it has failed.
     pub fn begin(&mut self, command: Command) -> Result<Packet, CallStop>
         requires { self.old.client.seq < 2 ^ 63 }
         ensures { Begins self.old command result self.new }
@@ -231,7 +231,7 @@ impl Client {
 
     /// Begins a query: what the client remembers of its pairs is told at once, and what asks the server for the others
     /// is to be sent; where none are left, the query is closed. `Busy` comes where a call is open, and then nothing
-    /// changes; after `NoMemory` the client has failed.
+    /// changes; after `NoMemory`, which comes only where none is open or the client had failed, it has failed.
     pub fn ask(&mut self, pairs: &Asked, server: ServerId) -> Result<Heard, CallStop>
         requires { self.old.client.q < 2 ^ 63 }
         ensures { Asks self.old server pairs.now result self.new }

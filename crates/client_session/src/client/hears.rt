@@ -1,8 +1,8 @@
 //! What a client does with the packets that servers send to it.
 
-ghost use Rattle.std.specs.Prelude.{◌≡◌, None, Some, true, false, IfOk};
+ghost use Rattle.std.specs.Prelude.{◌≡◌, None, Some, true, false, IfOk, OnErr};
 ghost use Rattle.kr_protocol.specs.Client.{may_answer_all, after_reply, answered, answers_from, turns_to, after_refer};
-ghost use Rattle.client_session.specs.Calls.{Takes, Hears};
+ghost use Rattle.client_session.specs.Calls.{Takes, Hears, heeds_reply, heeds_answers, heeds_refer};
 
 use super::{Client, Heard, last_of, remaining};
 use crate::answers::{fits, parts_of, remember_all, unsure_of};
@@ -16,7 +16,7 @@ impl Client {
     /// answers to the open part of its query what is sure is told; what a server is unsure of is asked of the last
     /// server of the known view, and where nothing is left the query is closed. A newer view, from a server that does
     /// not answer that part, is known from then on, and the last server of it is asked. Any other packet changes
-    /// nothing, also one whose answers cannot be those of the query.
+    /// nothing, also one whose answers cannot be those of the query, and is no cause of `NoMemory`.
     pub fn take(&mut self, packet: &Packet) -> Result<Heard, NoMemory>
         ensures { Takes self.old packet.now result self.new }
     {
@@ -34,7 +34,8 @@ impl Client {
     // A reply came in.
     fn hear_reply(&mut self, seq: u64, placed: &Placed) -> Result<Heard, NoMemory>
         requires { self.old.failed ≡ false }
-        ensures { Hears (after_reply self.old.client self.old.client.call seq placed.now) result self.new }
+        ensures hears { Hears (after_reply self.old.client self.old.client.call seq placed.now) result self.new }
+        ensures err { OnErr result (heeds_reply self.old.client seq ≡ true) }
     {
         if self.call.is_none() || seq != self.seq {
             return Ok(Heard::nothing(self.alloc));
@@ -85,7 +86,8 @@ impl Client {
     // Answers came in.
     fn hear_answers(&mut self, from: Node, q: u64, part: u8, told: &Told) -> Result<Heard, NoMemory>
         requires { self.old.failed ≡ false }
-        ensures { Hears (answers_from self.old.client from q part told.now) result self.new }
+        ensures hears { Hears (answers_from self.old.client from q part told.now) result self.new }
+        ensures err { OnErr result (heeds_answers self.old.client from q part told.now ≡ true) }
     {
         let Node::Server(server) = from else {
             return Ok(Heard::nothing(self.alloc));
@@ -104,7 +106,8 @@ impl Client {
     // A server has told of its view.
     fn hear_refer(&mut self, q: u64, part: u8, view: &View) -> Result<Heard, NoMemory>
         requires { self.old.failed ≡ false }
-        ensures { Hears (after_refer self.old.client self.old.client.asking q part view.now) result self.new }
+        ensures hears { Hears (after_refer self.old.client self.old.client.asking q part view.now) result self.new }
+        ensures err { OnErr result (heeds_refer self.old.client q part view.now ≡ true) }
     {
         let current = self.asking.is_some() && q == self.q && part == self.part;
         if !current || view.number <= self.known.number {
