@@ -60,9 +60,14 @@ fn query(alloc: Global) -> Result<Query, PushStop> {
     })
 }
 
-// How many answers the board has to it.
-fn answers<R: Threads + Sync>(rt: &R, board: &PlainBoard, query: Query) -> Result<usize, NoMemory> {
-    match board.all(rt, &[query], 1)?.as_slice() {
+// How many answers the board has to it by so many workers.
+fn answers<R: Threads + Sync>(
+    rt: &R,
+    board: &PlainBoard,
+    query: Query,
+    workers: u32,
+) -> Result<usize, NoMemory> {
+    match board.all(rt, &[query], workers)?.as_slice() {
         [told] => Ok(told.answers.len()),
         _ => Ok(0),
     }
@@ -91,6 +96,8 @@ fn a_board_keeps_the_last_command(rt: HostRuntime) -> Result<(), Fail> {
 #[test]
 fn a_board_answers(rt: HostRuntime) -> Result<(), Fail> {
     let board = board(rt.alloc())?;
-    assert!(rt; answers(&rt, &board, query(rt.alloc())?)? == 1);
+    for workers in 0..10 {
+        assert!(rt; answers(&rt, &board, query(rt.alloc())?, workers)? == 1);
+    }
     Ok(())
 }

@@ -1,13 +1,20 @@
 -- What the calls of a server do.
-use Rattle.std.specs.Prelude.{ℕ, List, ◌≡◌, ◌++◌, true, false, Result, Ok, Err}
+use Rattle.std.specs.Prelude.{ℕ, List, ◌≡◌, ◌≢◌, ◌<◌, ◌≤◌, ◌⊎◌, ◌++◌, length, true, false, None, Result, Ok, Err}
 use Rattle.kr_order.specs.declared.ids.ClientId.{ClientId}
 use Rattle.kr_order.specs.declared.ids.EventId.{EventId}
+use Rattle.kr_order.specs.declared.ids.ServerId.{ServerId}
 use Rattle.kr_order.specs.declared.answer.Query.{Query}
 use Rattle.kr_order.specs.declared.ids.NoMemory.{NoMemory as OutOfMemory}
+use Rattle.kr_order.specs.declared.message.Node as nodes
+use Rattle.kr_order.specs.declared.message.Node.TheVariants.{Manager, Client, Server as FromServer}
+use Rattle.kr_order.specs.declared.message.Message.{Message}
+use Rattle.kr_order.specs.declared.message.Message.TheVariants.{Request, Append, Ack, NewView, Ask}
 use Rattle.kr_order.specs.declared.message.Packet.{Packet}
+use Rattle.kr_order.specs.declared.view.View.{View}
+use Rattle.kr_order.specs.History.{highest_seq}
 use Rattle.kr_order.specs.Done.{done_of}
 use Rattle.kr_protocol.specs.Reaction.{Reaction}
-use Rattle.kr_protocol.specs.Server.{Server, acknowledged, server_takes}
+use Rattle.kr_protocol.specs.Server.{Server, acknowledged, server_takes, is_member, is_first, is_at_tail, is_for_tail_alone, is_server, prev, next, may_adopt, most_waiting}
 use Rattle.chain_server.specs.declared.effects.Effects.{Effects}
 use Rattle.chain_server.specs.ServerStanding.{ServerStanding}
 
@@ -23,8 +30,47 @@ abbrev pub Does : ServerStanding → Reaction Server → Result Effects OutOfMem
 Does old reaction (Ok effects) new = Heeds old reaction effects new
 Does old reaction (Err stop) new = new.failed ≡ true
 
+-- a member heeds a request, but for one of a new command that is not the first member
+abbrev pub HeedsRequest : Server → ClientId → ℕ → Type 0
+HeedsRequest server client seq = (is_member server ≡ true) × ((is_first server ≡ true) ⊎ (seq ≤ highest_seq client server.log))
+
+-- a server with a view heeds a query, but for one more where so many wait
+abbrev pub HeedsAsk : Server → ℕ → Type 0
+HeedsAsk server part =
+    (server.view ≢ None)
+    × ((is_member server ≡ false) ⊎ ((is_for_tail_alone (is_at_tail server) part ≡ true) ⊎ (length server.waiting < most_waiting)))
+
+-- which messages of clients, servers and the manager it heeds: it takes no notice of any other
+abbrev pub HeedsClient : Server → ClientId → Message → Type 0
+HeedsClient server client (Request seq command) = HeedsRequest server client seq
+HeedsClient server client (Ask q part pairs) = HeedsAsk server part
+HeedsClient server client other = ⊥
+
+abbrev pub HeedsServer : Server → ServerId → Message → Type 0
+HeedsServer server from (Append first entries) = is_server (prev server) from ≡ true
+HeedsServer server from (Ack done len) = is_server (next server) from ≡ true
+HeedsServer server from other = ⊥
+
+abbrev pub HeedsManager : Server → Message → Type 0
+HeedsManager server (NewView view) = may_adopt server view ≡ true
+HeedsManager server other = ⊥
+
+abbrev pub HeedsFrom : Server → nodes.Node → Message → Type 0
+HeedsFrom server Manager message = HeedsManager server message
+HeedsFrom server (Client client) message = HeedsClient server client message
+HeedsFrom server (FromServer from) message = HeedsServer server from message
+
+abbrev pub HeedsPacket : Server → Packet → Type 0
+HeedsPacket server packet = HeedsFrom server packet.from packet.message
+
+-- the server has failed: a call found no memory, which it may where this is so, or an earlier call had found none
+pub record FindsNoMemory (takes : Type 0) (old new : ServerStanding) : Type 0 where
+  pub cause : (old.failed ≡ true) ⊎ takes
+  pub after : new.failed ≡ true
+
 abbrev pub Takes : ServerStanding → Packet → Result Effects OutOfMemory → ServerStanding → Type 0
-Takes old packet result new = Does old (server_takes old.server packet) result new
+Takes old packet (Ok effects) new = Heeds old (server_takes old.server packet) effects new
+Takes old packet (Err stop) new = FindsNoMemory (HeedsPacket old.server packet) old new
 
 -- the server goes on as this reaction says, and its packets come behind those before
 pub record Adds (before : Effects) (old : ServerStanding) (reaction : Reaction Server) (effects : Effects) (new : ServerStanding)

@@ -142,7 +142,8 @@ impl<B: Board> Server<B> {
     }
 
     /// Takes a packet that is addressed to the server. What it does with each message is `server_takes` of the
-    /// definitions; a packet that it ignores changes nothing and sends nothing.
+    /// definitions; a packet that it ignores changes nothing and sends nothing. `NoMemory` comes only of a packet that it
+    /// heeds, or where it had failed.
     pub fn take(&mut self, packet: &Packet) -> Result<Effects, NoMemory>
         ensures { Takes self.old packet.now result self.new }
     {

@@ -1,6 +1,6 @@
 //! What is told to the queries that wait.
 
-ghost use Rattle.std.specs.Prelude.{◌≡◌, false, length, map, IfOk};
+ghost use Rattle.std.specs.Prelude.{◌≡◌, ◌<◌, false, length, map, IfOk, OnErr};
 ghost use Rattle.kr_order.specs.Answer.{partial};
 ghost use Rattle.kr_order.specs.View.{is_tail};
 ghost use Rattle.kr_protocol.specs.Server.{viewed, is_for_tail_alone, told_by, answered, worked_off};
@@ -158,7 +158,8 @@ pub fn work_packets<B: Board, R: Threads + Sync>(
     waiting: &[Query],
     workers: u32,
 ) -> Result<Packets, NoMemory>
-    ensures { IfOk result (λ packets. packets ≡
+    ensures err { OnErr result (0 < length waiting.now) }
+    ensures packets { IfOk result (λ packets. packets ≡
         map (worked_off id view.now (viewed false is_tail view.now id) (length (B.stands board.now)) (B.stands board.now)) waiting.now) }
 {
     let told = board.all(rt, waiting, workers)?;

@@ -1,7 +1,7 @@
 //! Acknowledgements of the next server.
 
-ghost use Rattle.std.specs.Prelude.{◌≡◌, ◌^◌, ◌≤◌, ◌&&◌, nat_le, length, min, false, IfOk, OnOk, OnErr};
-ghost use Rattle.kr_protocol.specs.Server.{ack, sends, is_server, behind, feeds, acknowledges, acknowledges_and_feeds, tells_joined, hears, after_ack};
+ghost use Rattle.std.specs.Prelude.{◌≡◌, ◌^◌, ◌≤◌, ◌&&◌, nat_le, length, min, true, false, IfOk, OnOk, OnErr};
+ghost use Rattle.kr_protocol.specs.Server.{ack, sends, is_server, next, behind, feeds, acknowledges, acknowledges_and_feeds, tells_joined, hears, after_ack};
 ghost use Rattle.chain_server.specs.Calls.{Does, AddsTo};
 
 use super::Server;
@@ -124,7 +124,8 @@ impl<B: Board> Server<B> {
         len: u64,
     ) -> Result<Effects, NoMemory>
         requires { self.old.failed ≡ false }
-        ensures { Does self.old (after_ack self.old.server from done len) result self.new }
+        ensures does { Does self.old (after_ack self.old.server from done len) result self.new }
+        ensures err { OnErr result (is_server (next self.old.server) from ≡ true) }
     {
         if !is_server(self.link.next(), from) {
             return Ok(Effects::none(self.alloc));

@@ -1,7 +1,7 @@
 //! Entries that the server before passes on.
 
 ghost use Rattle.std.specs.Prelude.{◌≡◌, ◌++◌, Some, length, true, false, IfOk, OnOk, OnErr};
-ghost use Rattle.kr_protocol.specs.Server.{acknowledged, appended, missing, ack_to, sends, advances_at_tail, after_append};
+ghost use Rattle.kr_protocol.specs.Server.{acknowledged, appended, missing, is_server, prev, ack_to, sends, advances_at_tail, after_append};
 ghost use Rattle.chain_server.specs.Calls.{Does, AddsTo};
 ghost use Rattle.chain_server.specs.Parts.{passed_on_by};
 
@@ -79,7 +79,8 @@ impl<B: Board> Server<B> {
         entries: &Entries,
     ) -> Result<Effects, NoMemory>
         requires { self.old.failed ≡ false }
-        ensures { Does self.old (after_append self.old.server from first entries.now) result self.new }
+        ensures does { Does self.old (after_append self.old.server from first entries.now) result self.new }
+        ensures err { OnErr result (is_server (prev self.old.server) from ≡ true) }
     {
         if !is_server(self.prev(), from) {
             return Ok(Effects::none(self.alloc));

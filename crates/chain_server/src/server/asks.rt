@@ -1,8 +1,8 @@
 //! Queries of clients, and the work on those that wait.
 
-ghost use Rattle.std.specs.Prelude.{◌≡◌, false};
-ghost use Rattle.kr_protocol.specs.Server.{waits, after_ask, server_works};
-ghost use Rattle.chain_server.specs.Calls.{Does, query_of};
+ghost use Rattle.std.specs.Prelude.{◌≡◌, ◌<◌, ◌⊎◌, length, true, false, OnErr};
+ghost use Rattle.kr_protocol.specs.Server.{waits, after_ask, server_works, most_waiting};
+ghost use Rattle.chain_server.specs.Calls.{Does, HeedsAsk, query_of};
 ghost use Rattle.chain_server.specs.Parts.{tells_view};
 
 use super::Server;
@@ -25,7 +25,8 @@ impl<B: Board> Server<B> {
         pairs: &Asked,
     ) -> Result<Effects, NoMemory>
         requires { self.old.failed ≡ false }
-        ensures { Does self.old (waits self.old.server (query_of client q part pairs.now)) result self.new }
+        ensures does { Does self.old (waits self.old.server (query_of client q part pairs.now)) result self.new }
+        ensures err { OnErr result (length self.old.server.waiting < most_waiting) }
     {
         if self.waiting.len() >= MOST_WAITING {
             return Ok(Effects::none(self.alloc));
@@ -63,7 +64,8 @@ impl<B: Board> Server<B> {
         pairs: &Asked,
     ) -> Result<Effects, NoMemory>
         requires { self.old.failed ≡ false }
-        ensures { Does self.old (after_ask self.old.server (query_of client q part pairs.now)) result self.new }
+        ensures does { Does self.old (after_ask self.old.server (query_of client q part pairs.now)) result self.new }
+        ensures err { OnErr result (HeedsAsk self.old.server part) }
     {
         if self.view.is_none() {
             return Ok(Effects::none(self.alloc));
@@ -77,9 +79,10 @@ impl<B: Board> Server<B> {
 
     /// Tells every waiting query something, the oldest first: the answers from the acknowledged prefix, or, where only
     /// the tail answers it and the server is another, which view it has adopted. Then none waits. The packets do not
-    /// depend on the number of workers.
+    /// depend on the number of workers. `NoMemory` comes only where a query waits, or the server had failed.
     pub fn work<R: Threads + Sync>(&mut self, rt: &R, workers: u32) -> Result<Effects, NoMemory>
-        ensures { Does self.old (server_works self.old.server) result self.new }
+        ensures does { Does self.old (server_works self.old.server) result self.new }
+        ensures err { OnErr result ((self.old.failed ≡ true) ⊎ (0 < length self.old.server.waiting)) }
     {
         if self.failed {
             return Err(NoMemory);

@@ -3,8 +3,8 @@
 ghost use Rattle.std.specs.Prelude.{◌≡◌, ◌<◌, [], ◌∷◌, true, false, IfOk, OnOk, OnErr};
 ghost use Rattle.kr_order.specs.Done.{done_of, last_of};
 ghost use Rattle.kr_order.specs.History.{highest_seq};
-ghost use Rattle.kr_protocol.specs.Server.{acknowledged, appended, commits_or_passes_on, enters, enters_new, after_request};
-ghost use Rattle.chain_server.specs.Calls.{Does};
+ghost use Rattle.kr_protocol.specs.Server.{acknowledged, is_first, appended, commits_or_passes_on, enters, enters_new, after_request};
+ghost use Rattle.chain_server.specs.Calls.{Does, HeedsRequest};
 ghost use Rattle.chain_server.specs.Parts.{entry_of, replies_again};
 
 use super::Server;
@@ -60,7 +60,8 @@ impl<B: Board> Server<B> {
     ) -> Result<Effects, NoMemory>
         requires whole { self.old.failed ≡ false }
         requires newer { highest_seq client self.old.server.log < seq }
-        ensures { Does self.old (enters_new self.old.server (entry_of client seq command.now)) result self.new }
+        ensures does { Does self.old (enters_new self.old.server (entry_of client seq command.now)) result self.new }
+        ensures err { OnErr result (is_first self.old.server ≡ true) }
     {
         if !self.is_first() {
             return Ok(Effects::none(self.alloc));
@@ -99,7 +100,8 @@ impl<B: Board> Server<B> {
         command: &Command,
     ) -> Result<Effects, NoMemory>
         requires { self.old.failed ≡ false }
-        ensures { Does self.old (after_request self.old.server client seq command.now) result self.new }
+        ensures does { Does self.old (after_request self.old.server client seq command.now) result self.new }
+        ensures err { OnErr result (HeedsRequest self.old.server client seq) }
     {
         if !self.is_member() {
             return Ok(Effects::none(self.alloc));

@@ -71,7 +71,8 @@ impl<B: Board> Server<B> {
     // The manager tells of a view.
     pub(super) fn take_view(&mut self, view: &View) -> Result<Effects, NoMemory>
         requires { self.old.failed ≡ false }
-        ensures { Does self.old (after_view self.old.server view.now) result self.new }
+        ensures does { Does self.old (after_view self.old.server view.now) result self.new }
+        ensures err { OnErr result (may_adopt self.old.server view.now ≡ true) }
     {
         if !self.may_adopt(view) {
             return Ok(Effects::none(self.alloc));

@@ -5,8 +5,8 @@ use Rattle.chain_server.specs.Calls.{Does}
 use Rattle.chain_server.proofs.HeedLemmas.{take_append-does}
 use Rattle.chain_server.proofs.server.Server.take_append.Goals as goal
 
-pub returns : goal.returns
-returns g c =
+pub returns-clause-does : goal.returns-clause-does
+returns-clause-does g c =
     let old = c.args.self.now in
     let from = c.args.from in
     let entries = missing old.server.log c.args.first c.args.entries.now in
