@@ -48,7 +48,7 @@ pub fn runs_are_lawful()
     ensures { RunsAreLawful }
 {}
 
-/// In no step more parts of queries are told than one query has pairs.
+/// In a run no more parts of queries are told as before than 32, the most pairs of a query, for each of its plain steps.
 pub fn befores_are_few()
     ensures { BeforesAreFew }
 {}

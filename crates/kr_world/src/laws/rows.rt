@@ -35,7 +35,8 @@ pub fn a_call_is_tried_again()
     ensures { text_of request_tried_again ≡ request_tried_again_text }
 {}
 
-/// Each refused word but the one for a full bag, which has the law below.
+/// The refused words for packets, clients and servers that are not there, for an open call and none, and for a packet that
+/// was lost.
 pub fn refused_steps_change_nothing()
     ensures { text_of refused_steps ≡ refused_steps_text }
 {}
