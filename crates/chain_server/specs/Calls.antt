@@ -14,7 +14,8 @@ use Rattle.kr_order.specs.declared.view.View.{View}
 use Rattle.kr_order.specs.History.{highest_seq}
 use Rattle.kr_order.specs.Done.{done_of}
 use Rattle.kr_protocol.specs.Reaction.{Reaction}
-use Rattle.kr_protocol.specs.Server.{Server, acknowledged, server_takes, is_member, is_first, is_at_tail, is_for_tail_alone, is_server, prev, next, may_adopt, most_waiting}
+use Rattle.kr_protocol.specs.Server.{Server, acknowledged, server_takes, server_works, is_member, is_first, is_at_tail}
+use Rattle.kr_protocol.specs.Server.{is_for_tail_alone, is_server, prev, next, may_adopt, most_waiting}
 use Rattle.chain_server.specs.declared.effects.Effects.{Effects}
 use Rattle.chain_server.specs.ServerStanding.{ServerStanding}
 
@@ -71,6 +72,11 @@ pub record FindsNoMemory (takes : Type 0) (old new : ServerStanding) : Type 0 wh
 abbrev pub Takes : ServerStanding → Packet → Result Effects OutOfMemory → ServerStanding → Type 0
 Takes old packet (Ok effects) new = Heeds old (server_takes old.server packet) effects new
 Takes old packet (Err stop) new = FindsNoMemory (HeedsPacket old.server packet) old new
+
+-- the server works, or has failed, for want of memory only where a query waits
+abbrev pub Works : ServerStanding → Result Effects OutOfMemory → ServerStanding → Type 0
+Works old (Ok effects) new = Heeds old (server_works old.server) effects new
+Works old (Err stop) new = FindsNoMemory (0 < length old.server.waiting) old new
 
 -- the server goes on as this reaction says, and its packets come behind those before
 pub record Adds (before : Effects) (old : ServerStanding) (reaction : Reaction Server) (effects : Effects) (new : ServerStanding)

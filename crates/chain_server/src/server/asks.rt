@@ -1,8 +1,8 @@
 //! Queries of clients, and the work on those that wait.
 
-ghost use Rattle.std.specs.Prelude.{◌≡◌, ◌<◌, ◌⊎◌, length, true, false, OnErr};
-ghost use Rattle.kr_protocol.specs.Server.{waits, after_ask, server_works, most_waiting};
-ghost use Rattle.chain_server.specs.Calls.{Does, HeedsAsk, query_of};
+ghost use Rattle.std.specs.Prelude.{◌≡◌, ◌<◌, length, false, OnErr};
+ghost use Rattle.kr_protocol.specs.Server.{waits, after_ask, most_waiting};
+ghost use Rattle.chain_server.specs.Calls.{Does, HeedsAsk, Works, query_of};
 ghost use Rattle.chain_server.specs.Parts.{tells_view};
 
 use super::Server;
@@ -81,8 +81,7 @@ impl<B: Board> Server<B> {
     /// the tail answers it and the server is another, which view it has adopted. Then none waits. The packets do not
     /// depend on the number of workers. `NoMemory` comes only where a query waits, or the server had failed.
     pub fn work<R: Threads + Sync>(&mut self, rt: &R, workers: u32) -> Result<Effects, NoMemory>
-        ensures does { Does self.old (server_works self.old.server) result self.new }
-        ensures err { OnErr result ((self.old.failed ≡ true) ⊎ (0 < length self.old.server.waiting)) }
+        ensures { Works self.old result self.new }
     {
         if self.failed {
             return Err(NoMemory);
