@@ -21,13 +21,14 @@ use Rattle.kr_world.proofs.rounds.RoundLemmas.{lines_from-append, after_all_kept
 use Rattle.kr_world.proofs.rounds.RoundShapeLemmas.{asks_none}
 use Rattle.kr_world.proofs.rounds.RoundEventLemmas.{calls_fit, deliveries_fit, works_fit}
 use Rattle.script_lang.specs.Event.{IsEvent}
-use Rattle.cluster_sim.specs.BagStanding.{BagStanding}
+use Rattle.cluster_parts.specs.BagStanding.{BagStanding}
 use Rattle.cluster_sim.specs.ClusterStanding.{ClusterStanding}
 use Rattle.cluster_sim.specs.Steps.{after_step, after_steps, DoesSteps, DoesAll, counted}
 use Rattle.cluster_sim.proofs.PartsLemmas.{callers_counted}
-use Rattle.cluster_sim.specs.Parts.{world_of, IsReady, told_in, parts_in, lines_of, Makes}
-use Rattle.cluster_sim.specs.declared.parts.Parts.{Parts}
-use Rattle.cluster_sim.specs.declared.parts.Noted.{Noted}
+use Rattle.cluster_parts.specs.PartsStanding.{world_of, told_in, parts_in, lines_of}
+use Rattle.cluster_sim.specs.Parts.{IsReady, Makes}
+use Rattle.cluster_parts.specs.declared.parts.Parts.{Parts}
+use Rattle.cluster_parts.specs.declared.parts.Noted.{Noted}
 
 -- the lines of what was made
 lines_so : (world : World) (outcome : Outcome) (made : Parts) (noting : Noted) (entries : ℕ) → entries ≡ length world.history → Makes outcome (length world.bag) made noting → lines_of entries made noting ≡ step_lines world outcome

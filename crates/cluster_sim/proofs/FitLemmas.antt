@@ -22,8 +22,8 @@ use Rattle.chain_server.specs.ServerStanding.{ServerStanding}
 use Rattle.chain_server.specs.Calls.{Heeds as ServerHeeds}
 use Rattle.kr_world.specs.World.{World, client_at, server_at}
 use Rattle.kr_world.specs.Step.{client_calls, client_asks, client_retries, arrives_at_client, arrives_at_server, arrives_at_manager, joined_at_manager, works, ticks_at}
-use Rattle.cluster_sim.specs.declared.parts.Parts.{Parts}
-use Rattle.cluster_sim.specs.Parts.{world_of}
+use Rattle.cluster_parts.specs.declared.parts.Parts.{Parts}
+use Rattle.cluster_parts.specs.PartsStanding.{world_of}
 use Rattle.cluster_sim.proofs.PartsLemmas.{client_there, server_there}
 
 last_all : {item : Type 0} (P : item → Type 0) (xs ys : List item) → All P (xs ++ ys) → All P ys

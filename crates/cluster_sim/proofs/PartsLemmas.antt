@@ -51,10 +51,11 @@ use Rattle.kr_world.proofs.steps.StepLemmas.{at_index, may_turn, may_deliver}
 use Rattle.kr_world.proofs.chain.SeatLemmas.{IsSeated, seated, own_of}
 use Rattle.kr_world.proofs.bounds.BoundsLemmas.{IsWithinBounds}
 use Rattle.kr_world.proofs.bounds.ReactionLemmas.{HistoryGrows, grows_or_stays}
-use Rattle.cluster_sim.specs.BagStanding.{BagStanding, IsNumbered, IsSent}
-use Rattle.cluster_sim.specs.declared.parts.Parts.{Parts}
-use Rattle.cluster_sim.specs.declared.parts.Noted.{Noted}
-use Rattle.cluster_sim.specs.Parts.{history_of, world_of, IsWhole, IsAtRest, IsReady, IsNotedOf, noted, Makes}
+use Rattle.cluster_parts.specs.BagStanding.{BagStanding, IsNumbered, IsSent}
+use Rattle.cluster_parts.specs.declared.parts.Parts.{Parts}
+use Rattle.cluster_parts.specs.declared.parts.Noted.{Noted}
+use Rattle.cluster_parts.specs.PartsStanding.{history_of, world_of, noted}
+use Rattle.cluster_sim.specs.Parts.{IsWhole, IsAtRest, IsReady, IsNotedOf, Makes}
 
 -- the node of a client in the parts is that of their world
 pub client_there : (parts : Parts) (client : ClientId) (node : ClientStanding) → slice_get parts.clients.items (client.0 - 1) ≡ Some node → client_at (world_of parts) client ≡ Some node.client

@@ -8,7 +8,7 @@ use Rattle.kr_order.specs.declared.message.Packet.{Packet}
 use Rattle.kr_world.specs.World.{World}
 use Rattle.kr_world.specs.declared.refusal.Refusal.TheVariants.{NoSuchPacket}
 use Rattle.kr_world.specs.Step.{deliver_refusal, lose_refusal, arrival_refusal, loss_refusal}
-use Rattle.cluster_sim.specs.BagStanding.{BagStanding, IsNumbered}
+use Rattle.cluster_parts.specs.BagStanding.{BagStanding, IsNumbered}
 
 abbrev pub goes : Option Packet → Option Node
 goes found = option_map (λ (packet : Packet). packet.to) found

@@ -11,8 +11,8 @@ use Rattle.script_lang.specs.declared.script.Event.TheVariants.{Deliver, Retry}
 use Rattle.kr_world.specs.World.{World, is_stopped}
 use Rattle.kr_world.specs.Round.{aim, retry_at, learnt, learnt_retry_of, is_under_way, AreSettled}
 use Rattle.kr_world.proofs.rounds.RoundLoopLemmas.{left_out}
-use Rattle.cluster_sim.specs.declared.parts.Parts.{Parts}
-use Rattle.cluster_sim.specs.Parts.{world_of}
+use Rattle.cluster_parts.specs.declared.parts.Parts.{Parts}
+use Rattle.cluster_parts.specs.PartsStanding.{world_of}
 use Rattle.cluster_sim.proofs.PartsLemmas.{client_there}
 
 -- where a client that knows the view tries again, or does not

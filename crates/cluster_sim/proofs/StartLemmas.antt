@@ -17,19 +17,16 @@ use Rattle.kr_world.proofs.steps.ListFacts.{all_of}
 use Rattle.kr_world.proofs.rounds.RoundLoopLemmas.{numbers_to-next}
 use Rattle.kr_world.proofs.sound.SoundLemmas.{worlds_sound}
 use Rattle.kr_world.proofs.chain.ViewLemmas.{length-made}
-use Rattle.cluster_sim.specs.declared.parts.Parts.{Parts}
+use Rattle.cluster_parts.specs.declared.parts.Parts.{Parts}
 use Rattle.kr_order.specs.declared.history.Entry.{Entry}
 use Rattle.kr_order.specs.declared.message.Packet.{Packet}
-use Rattle.cluster_sim.specs.BagStanding.{BagStanding}
-use Rattle.cluster_sim.specs.Parts.{history_of, world_of, IsWhole, IsAtRest, IsReady}
+use Rattle.cluster_parts.specs.BagStanding.{BagStanding}
+use Rattle.cluster_parts.specs.PartsStanding.{history_of, world_of}
+use Rattle.cluster_sim.specs.Parts.{IsWhole, IsAtRest, IsReady}
 use Rattle.wire_fit.specs.Spoken.{IsSpoken}
 use Rattle.wire_fit.proofs.SpokenLemmas.{worlds_spoken}
 use Rattle.script_lang.specs.Script.{IsSize}
 use Rattle.cluster_sim.proofs.RoundLemmas.{none_settled}
-
-pub one_more : {X : Type 0} (f : ℕ → X) (n : ℕ) (xs : List X) → xs ≡ map f (numbers_to n) → xs ++ f (n + 1) ∷ [] ≡ map f (numbers_to (n + 1))
-one_more f n xs is =
-    ap (λ l. l ++ f (n + 1) ∷ []) is ∙ sym (map-append f (numbers_to n) ((n + 1) ∷ [])) ∙ ap (map f) (sym (numbers_to-next n))
 
 abbrev new_servers : ℕ → List ServerStanding
 new_servers n = map (λ m. record { server = founder (first_view n) (record { 0 = m }); failed = false }) (numbers_to n)

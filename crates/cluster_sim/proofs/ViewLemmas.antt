@@ -27,13 +27,14 @@ use Rattle.kr_world.proofs.manager.NoticeLemmas.{may_notice, removed_sound}
 use Rattle.kr_world.proofs.manager.JoinLemmas.{with_newcomer, with_newcomer_sound, may_join}
 use Rattle.kr_world.proofs.manager.PromotionLemmas.{may_promote_so, with_member_sound}
 use Rattle.kr_order.specs.declared.ids.NoMemory.{NoMemory}
-use Rattle.cluster_sim.specs.declared.parts.Noted.{Noted}
-use Rattle.cluster_sim.specs.declared.parts.Parts.{Parts}
+use Rattle.cluster_parts.specs.declared.parts.Noted.{Noted}
+use Rattle.cluster_parts.specs.declared.parts.Parts.{Parts}
 use Rattle.kr_order.specs.declared.history.DoneEntry.{DoneEntry}
 use Rattle.kr_order.specs.Done.{done_of}
-use Rattle.cluster_sim.specs.BagStanding.{BagStanding}
+use Rattle.cluster_parts.specs.BagStanding.{BagStanding}
 use Rattle.kr_wire.specs.Valid.{IsPacket}
-use Rattle.cluster_sim.specs.Parts.{history_of, world_of, IsWhole, Makes}
+use Rattle.cluster_parts.specs.PartsStanding.{history_of, world_of}
+use Rattle.cluster_sim.specs.Parts.{IsWhole, Makes}
 use Rattle.cluster_sim.proofs.PartsLemmas.{nothing_noted, client_there, server_there, clients_after, clients_whole, client_within}
 
 and_assoc : (a b c : Bool) → (a && (b && c)) ≡ ((a && b) && c)

@@ -1,4 +1,3 @@
-pub mod BagStanding
 pub mod Parts
 pub mod ClusterStanding
 pub mod Steps

@@ -12,14 +12,11 @@ ghost use Rattle.kr_world.specs.Step.{is_full};
 ghost use Rattle.kr_world.specs.Round.{is_round, round_calls, round_events, delivery_events, work_events, IsOfRound};
 ghost use Rattle.cluster_sim.specs.Steps.{DoesAll, Steps, StepsOnto};
 
-use crate::bag::Bag;
 use crate::count::befores;
-use crate::lines::{Lines, end_lines, put_step};
-use crate::parts::Parts;
 use crate::round::{calls, deliveries, settled, works};
-use crate::start::{callers, founders, running};
 use crate::step::step;
 use chain_manager::Manager;
+use cluster_parts::{Bag, Lines, Parts, callers, end_lines, founders, put_step, running};
 use kr_order::{DoneList, NoMemory};
 use script_lang::Event;
 use std::alloc::Global;
@@ -44,7 +41,8 @@ impl Model for Cluster {
 
     ghost Value = { ClusterStanding };
 
-    ghost use Rattle.cluster_sim.specs.Parts.{world_of, IsReady};
+    ghost use Rattle.cluster_parts.specs.PartsStanding.{world_of};
+    ghost use Rattle.cluster_sim.specs.Parts.{IsReady};
 
     ghost view = { λ c. record { world = world_of c.parts; failed = c.failed; befores = c.befores } };
 

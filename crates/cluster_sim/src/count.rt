@@ -2,9 +2,9 @@
 
 ghost use Rattle.std.specs.Prelude.{◌≡◌, count_by};
 ghost use Rattle.kr_world.specs.Counts.{is_before, befores_of};
-ghost use Rattle.cluster_sim.specs.Parts.{parts_in};
+ghost use Rattle.cluster_parts.specs.PartsStanding.{parts_in};
 
-use crate::parts::{Noted, PartsTelling};
+use cluster_parts::{Noted, PartsTelling};
 use kr_order::{Answer, ToldPart};
 
 // Whether the part was told as before.

@@ -5,15 +5,11 @@
 //! answer `NoMemory` then does.
 #![tactic(auto)]
 
-mod bag;
 mod cluster;
 mod count;
-mod lines;
-mod parts;
 mod refusals;
 mod round;
-mod start;
 mod step;
 
 pub use cluster::Cluster;
-pub use lines::Lines;
+pub use cluster_parts::Lines;

@@ -6,12 +6,12 @@ ghost use Rattle.kr_world.specs.World.{client_at, server_at, packet_at, is_stopp
 ghost use Rattle.kr_world.specs.Step.{if_full, refusal_of, call_refusal, server_refusal, query_refusal, retry_refusal, turn_refusal};
 ghost use Rattle.kr_world.specs.Step.{arrival_refusal, deliver_refusal, loss_refusal, lose_refusal, tick_refusal, have_stopped};
 ghost use Rattle.kr_world.specs.Step.{is_last_running, stop_refusal, notice_refusal, join_refusal, show_refusal, learn_refusal};
-ghost use Rattle.cluster_sim.specs.Parts.{world_of};
-ghost use Rattle.cluster_sim.specs.BagStanding.{IsNumbered};
+ghost use Rattle.cluster_parts.specs.PartsStanding.{world_of};
+ghost use Rattle.cluster_parts.specs.BagStanding.{IsNumbered};
 ghost use Rattle.script_lang.specs.Event.{IsEvent};
 
-use crate::parts::Parts;
 use chain_manager::MOST_SERVERS;
+use cluster_parts::Parts;
 use kr_order::{ClientId, Node, ServerId};
 use kr_world::Refusal;
 use script_lang::Event;

@@ -5,12 +5,13 @@ ghost use Rattle.kr_protocol.specs.Client.{is_busy, learns};
 ghost use Rattle.kr_world.specs.World.{packet_at, is_stopped};
 ghost use Rattle.kr_world.specs.Round.{learn_events, tick_events, aim, learnt_retry_of, learnt_retry_events, may_take, is_under_way};
 ghost use Rattle.kr_world.specs.Round.{delivery_events, work_events, round_calls, AreSettled};
-ghost use Rattle.cluster_sim.specs.Parts.{world_of, event_in};
-ghost use Rattle.cluster_sim.specs.BagStanding.{IsNumbered};
+ghost use Rattle.cluster_parts.specs.PartsStanding.{world_of};
+ghost use Rattle.cluster_sim.specs.Parts.{event_in};
+ghost use Rattle.cluster_parts.specs.BagStanding.{IsNumbered};
 
-use crate::parts::Parts;
 use crate::refusals::{has_stopped, is_stopped};
 use client_session::Client;
+use cluster_parts::Parts;
 use kr_order::{ClientId, NoMemory, ServerId, View};
 use script_lang::Event;
 use std::alloc::Global;

@@ -10,10 +10,11 @@ ghost use Rattle.kr_world.specs.Sound.{HaveBegun};
 ghost use Rattle.kr_world.specs.Step.{refusal_of, act, step as world_step};
 ghost use Rattle.script_lang.specs.Event.{IsEvent};
 ghost use Rattle.kr_wire.specs.Valid.{IsPacket};
-ghost use Rattle.cluster_sim.specs.Parts.{world_of, IsWhole, IsAtRest, Makes};
+ghost use Rattle.cluster_parts.specs.PartsStanding.{world_of};
+ghost use Rattle.cluster_sim.specs.Parts.{IsWhole, IsAtRest, Makes};
 
-use crate::parts::{Noted, Parts};
 use crate::refusals::refusal;
+use cluster_parts::{Noted, Parts};
 use kr_order::NoMemory;
 use script_lang::Event;
 use std::alloc::Global;

@@ -113,7 +113,7 @@ fn told<A: Asks, L: Ledger>(
     Ok(told)
 }
 
-// The same, by steps that nobody counts. Where no query waits it takes no memory.
+// The same, by steps that nobody counts.
 fn told_uncounted<A: Asks, L: Ledger>(
     alloc: Global,
     order: &A,
@@ -125,9 +125,6 @@ fn told_uncounted<A: Asks, L: Ledger>(
     requires some { 0 < blank.parts }
     ensures { IfOk result (λ told. told.items ≡ map (told_after (A.history order.now)) queries.now) }
 {
-    if queries.is_empty() {
-        return Ok(Vec::new(alloc));
-    }
     let mut steps = Steps::<L>::new(blank);
     told(alloc, order, queries, &mut steps)
 }

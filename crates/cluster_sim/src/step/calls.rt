@@ -2,15 +2,15 @@
 
 ghost use Rattle.std.specs.Prelude.{◌≡◌, ◌^◌, ◌-◌, IfOk, OnOk, None, All};
 ghost use Rattle.kr_world.specs.Step.{told_to, refusal_of, act};
-ghost use Rattle.cluster_sim.specs.Parts.{world_of, IsWhole, IsNotedOf, told_in, Makes};
-ghost use Rattle.cluster_sim.specs.BagStanding.{IsSent};
+ghost use Rattle.cluster_parts.specs.PartsStanding.{world_of, told_in};
+ghost use Rattle.cluster_sim.specs.Parts.{IsWhole, IsNotedOf, Makes};
+ghost use Rattle.cluster_parts.specs.BagStanding.{IsSent};
 ghost use Rattle.kr_wire.specs.Valid.{IsPacket};
 ghost use Rattle.kr_world.specs.Sound.{HaveBegun};
 
-use crate::bag::Bag;
-use crate::parts::{Noted, Parts, PartsTelling, Telling};
 use crate::refusals::index_of;
 use client_session::{CallStop, Heard, RetryStop};
+use cluster_parts::{Bag, Noted, Parts, PartsTelling, Telling};
 use kr_order::{Asked, ClientId, Command, Copied, NoMemory, ServerId, ToldReply};
 use script_lang::Event;
 use std::alloc::Global;

@@ -6,13 +6,14 @@ ghost use Rattle.kr_world.specs.World.{client_at, server_at, is_stopped};
 ghost use Rattle.kr_world.specs.Step.{arrives_at_client, arrives_at_server, arrives_at_manager, refusal_of, act};
 ghost use Rattle.kr_world.specs.Sound.{IsSoundPacket};
 ghost use Rattle.kr_wire.specs.Valid.{IsPacket};
-ghost use Rattle.cluster_sim.specs.Parts.{world_of, IsWhole, Makes};
+ghost use Rattle.cluster_parts.specs.PartsStanding.{world_of};
+ghost use Rattle.cluster_sim.specs.Parts.{IsWhole, Makes};
 
-use crate::parts::{Noted, Parts};
 use crate::refusals::index_of;
 use crate::step::calls::hear;
 use crate::step::turns::carry_out;
 use crate::step::views::promote;
+use cluster_parts::{Noted, Parts};
 use kr_order::{ClientId, Message, NoMemory, Node, Packet, ServerId};
 use script_lang::Event;
 use std::alloc::Global;

@@ -3,14 +3,15 @@
 ghost use Rattle.std.specs.Prelude.{◌≡◌, None, IfOk, OnOk, All};
 ghost use Rattle.kr_world.specs.World.{server_at};
 ghost use Rattle.kr_world.specs.Step.{turn_refusal, ticks_at, refusal_of, act};
-ghost use Rattle.cluster_sim.specs.Parts.{world_of, noted, IsWhole, Makes};
-ghost use Rattle.cluster_sim.specs.BagStanding.{IsSent};
+ghost use Rattle.cluster_parts.specs.PartsStanding.{world_of, noted};
+ghost use Rattle.cluster_sim.specs.Parts.{IsWhole, Makes};
+ghost use Rattle.cluster_parts.specs.BagStanding.{IsSent};
 ghost use Rattle.kr_wire.specs.Valid.{IsPacket};
 
-use crate::parts::{Noted, Parts, note};
 use crate::refusals::index_of;
 use crate::step::views::tell;
 use chain_server::Effects;
+use cluster_parts::{Noted, Parts, note};
 use kr_order::{NoMemory, ServerId};
 use kr_world::Shown;
 use script_lang::Event;

@@ -6,13 +6,14 @@ ghost use Rattle.kr_protocol.specs.Manager.{next_server, removes, adds, views_of
 ghost use Rattle.kr_protocol.specs.Server.{newcomer};
 ghost use Rattle.kr_world.specs.Step.{manager_tells, joined_at_manager, joins, refusal_of, act};
 ghost use Rattle.kr_world.specs.Sound.{HasJoined};
-ghost use Rattle.cluster_sim.specs.Parts.{world_of, IsWhole, Makes};
+ghost use Rattle.cluster_parts.specs.PartsStanding.{world_of};
+ghost use Rattle.cluster_sim.specs.Parts.{IsWhole, Makes};
 ghost use Rattle.kr_wire.specs.Valid.{IsPacket};
 
-use crate::parts::{Noted, Parts};
 use crate::refusals::index_of;
 use chain_manager::{Deny, MOST_SERVERS, Manager};
 use chain_server::Server;
+use cluster_parts::{Noted, Parts};
 use kr_order::{ClientId, NoMemory, ServerId};
 use order_state::PlainBoard;
 use script_lang::Event;

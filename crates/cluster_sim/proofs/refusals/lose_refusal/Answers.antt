@@ -1,6 +1,6 @@
 use Rattle.std.proofs.Common.{refl, ◌∙◌}
 use Rattle.kr_world.specs.World.{packet_at}
-use Rattle.cluster_sim.specs.Parts.{world_of}
+use Rattle.cluster_parts.specs.PartsStanding.{world_of}
 use Rattle.cluster_sim.proofs.RefusalLemmas.{lose_none, lose_some, goes_within}
 use Rattle.cluster_sim.proofs.refusals.lose_refusal.Goals as goal
 

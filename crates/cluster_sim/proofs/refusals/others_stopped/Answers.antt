@@ -5,7 +5,7 @@ use Rattle.kr_order.specs.declared.ids.ServerId.{ServerId}
 use Rattle.kr_protocol.specs.Manager.{members_but}
 use Rattle.kr_world.specs.World.{World, is_stopped}
 use Rattle.kr_world.specs.Step.{have_stopped}
-use Rattle.cluster_sim.specs.Parts.{world_of}
+use Rattle.cluster_parts.specs.PartsStanding.{world_of}
 use Rattle.cluster_sim.proofs.ViewLemmas.{others_more}
 use Rattle.cluster_sim.proofs.refusals.others_stopped.Goals as goal
 use Rattle.cluster_sim.proofs.refusals.others_stopped.Goals.{then-all+then-member-id, then-all+else-member-id, else-all}

@@ -5,7 +5,7 @@ use Rattle.script_lang.specs.declared.script.Event.{Event}
 use Rattle.script_lang.specs.declared.script.Event.TheVariants.{Deliver}
 use Rattle.kr_world.specs.Round.{is_under_way}
 use Rattle.kr_world.proofs.rounds.RoundLoopLemmas.{kept_more, left_out}
-use Rattle.cluster_sim.specs.Parts.{world_of}
+use Rattle.cluster_parts.specs.PartsStanding.{world_of}
 use Rattle.cluster_sim.proofs.RoundLemmas.{none_delivered}
 use Rattle.cluster_sim.proofs.round.deliveries.Goals as goal
 use Rattle.cluster_sim.proofs.round.deliveries.Goals.{then-is_under_way+in_ok-push, else-is_under_way}

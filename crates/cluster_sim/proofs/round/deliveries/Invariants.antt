@@ -3,7 +3,7 @@ use Rattle.std.specs.Prelude.{filter}
 use Rattle.kr_order.specs.Numbers.{numbers_to}
 use Rattle.script_lang.specs.declared.script.Event.TheVariants.{Deliver}
 use Rattle.kr_world.specs.Round.{is_under_way}
-use Rattle.cluster_sim.specs.Parts.{world_of}
+use Rattle.cluster_parts.specs.PartsStanding.{world_of}
 use Rattle.cluster_sim.proofs.round.deliveries.Given as goal
 
 abbrev pub invariant-loop-i : goal.invariant-loop-i

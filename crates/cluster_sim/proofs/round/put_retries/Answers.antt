@@ -7,8 +7,8 @@ use Rattle.kr_order.specs.Numbers.{numbers_to}
 use Rattle.script_lang.specs.declared.script.Event.{Event}
 use Rattle.kr_world.specs.Round.{learnt_retry_of}
 use Rattle.kr_world.proofs.rounds.RoundLoopLemmas.{given_more}
-use Rattle.cluster_sim.specs.Parts.{world_of}
-use Rattle.cluster_sim.proofs.LinesLemmas.{written_more}
+use Rattle.cluster_parts.specs.PartsStanding.{world_of}
+use Rattle.cluster_parts.proofs.LinesLemmas.{written_more}
 use Rattle.cluster_sim.proofs.round.put_retries.Goals as goal
 use Rattle.cluster_sim.proofs.round.put_retries.Goals.{in-Some+in_ok-push-in-Some, in-None}
 

@@ -4,7 +4,7 @@ use Rattle.kr_protocol.specs.Manager.{Manager}
 use Rattle.kr_protocol.specs.Server.{founder}
 use Rattle.kr_protocol.specs.Client.{new_client}
 use Rattle.kr_world.specs.World.{World}
-use Rattle.cluster_sim.specs.declared.parts.Parts.{Parts}
+use Rattle.cluster_parts.specs.declared.parts.Parts.{Parts}
 use Rattle.cluster_sim.specs.ClusterStanding.{ClusterStanding}
 use Rattle.cluster_sim.proofs.StartLemmas.{IsStart, started, started_ready}
 use Rattle.cluster_sim.proofs.cluster.Cluster.new.Goals as goal

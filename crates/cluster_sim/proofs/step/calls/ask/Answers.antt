@@ -4,8 +4,9 @@ use Rattle.std.specs.Vec.{with_item}
 use Rattle.std.proofs.lemmas.Option.{slice_get_read}
 use Rattle.kr_world.specs.World.{client_at, server_at}
 use Rattle.kr_world.specs.Step.{client_asks}
-use Rattle.cluster_sim.specs.Parts.{world_of, IsNotedOf, Makes}
-use Rattle.cluster_sim.specs.BagStanding.{IsSent}
+use Rattle.cluster_parts.specs.PartsStanding.{world_of}
+use Rattle.cluster_sim.specs.Parts.{IsNotedOf, Makes}
+use Rattle.cluster_parts.specs.BagStanding.{IsSent}
 use Rattle.cluster_sim.proofs.PartsLemmas.{asker_there, client_asked, noted_so}
 use Rattle.cluster_sim.proofs.FitLemmas.{question_fits}
 use Rattle.cluster_sim.proofs.step.calls.ask.Goals as goal

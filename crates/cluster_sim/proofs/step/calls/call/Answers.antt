@@ -5,7 +5,8 @@ use Rattle.std.proofs.lemmas.Option.{slice_get_read}
 use Rattle.kr_world.specs.World.{client_at}
 use Rattle.kr_world.specs.Step.{client_calls}
 use Rattle.kr_wire.specs.Valid.{IsPacket}
-use Rattle.cluster_sim.specs.Parts.{world_of, Makes}
+use Rattle.cluster_parts.specs.PartsStanding.{world_of}
+use Rattle.cluster_sim.specs.Parts.{Makes}
 use Rattle.cluster_sim.proofs.PartsLemmas.{nothing_noted, caller_there, client_called}
 use Rattle.cluster_sim.proofs.FitLemmas.{call_fits}
 use Rattle.cluster_sim.proofs.step.calls.call.Goals as goal

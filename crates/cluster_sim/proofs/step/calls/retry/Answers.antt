@@ -2,7 +2,8 @@ use Rattle.std.proofs.Common.{◌≡◌, ◌-◌, length, get_or, refl, sym, ap,
 use Rattle.std.proofs.lemmas.Option.{slice_get_read}
 use Rattle.kr_world.specs.World.{client_at, server_at}
 use Rattle.kr_world.specs.Step.{client_retries}
-use Rattle.cluster_sim.specs.Parts.{world_of, Makes}
+use Rattle.cluster_parts.specs.PartsStanding.{world_of}
+use Rattle.cluster_sim.specs.Parts.{Makes}
 use Rattle.cluster_sim.proofs.PartsLemmas.{retrier_there, client_retried}
 use Rattle.cluster_sim.proofs.FitLemmas.{retry_fits}
 use Rattle.cluster_sim.proofs.step.calls.retry.Goals as goal

@@ -1,7 +1,7 @@
 use Rattle.std.proofs.Common.{◌≡◌}
 use Rattle.kr_order.specs.declared.message.Node.TheVariants.{Server}
 use Rattle.kr_order.specs.declared.message.Message.TheVariants.{Joined}
-use Rattle.cluster_sim.specs.Parts.{world_of}
+use Rattle.cluster_parts.specs.PartsStanding.{world_of}
 use Rattle.cluster_sim.proofs.FitLemmas.{joined_fits}
 use Rattle.cluster_sim.proofs.step.packets.arrive_at_manager.Goals as goal
 

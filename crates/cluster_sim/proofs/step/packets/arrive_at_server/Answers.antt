@@ -6,7 +6,8 @@ use Rattle.std.proofs.lemmas.Option.{slice_get_read}
 use Rattle.chain_server.specs.ServerStanding.{ServerStanding}
 use Rattle.kr_world.specs.World.{server_at}
 use Rattle.kr_world.specs.Step.{arrives_at_server}
-use Rattle.cluster_sim.specs.Parts.{world_of, noted, Makes}
+use Rattle.cluster_parts.specs.PartsStanding.{world_of, noted}
+use Rattle.cluster_sim.specs.Parts.{Makes}
 use Rattle.cluster_sim.proofs.PartsLemmas.{IsCarriedOut, server_took}
 use Rattle.cluster_sim.proofs.FitLemmas.{taken_fit}
 use Rattle.cluster_sim.proofs.step.packets.arrive_at_server.Goals as goal

@@ -1,7 +1,7 @@
 use Rattle.std.proofs.Common.{refl}
 use Rattle.kr_order.specs.declared.message.Node.TheVariants.{Manager, Client, Server}
 use Rattle.kr_world.specs.World.{packet_at}
-use Rattle.cluster_sim.specs.Parts.{world_of}
+use Rattle.cluster_parts.specs.PartsStanding.{world_of}
 use Rattle.cluster_sim.proofs.PartsLemmas.{delivered_whole, delivered_there, delivers_so, delivers_fit, delivers_sound, delivers_to}
 use Rattle.cluster_sim.proofs.step.packets.deliver.Goals as goal
 

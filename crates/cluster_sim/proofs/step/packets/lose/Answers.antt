@@ -1,7 +1,8 @@
 use Rattle.std.proofs.Common.{refl, sym, subst}
 use Rattle.kr_world.specs.World.{packet_at}
 use Rattle.kr_world.specs.Step.{loses}
-use Rattle.cluster_sim.specs.Parts.{world_of, Makes}
+use Rattle.cluster_parts.specs.PartsStanding.{world_of}
+use Rattle.cluster_sim.specs.Parts.{Makes}
 use Rattle.cluster_sim.proofs.PartsLemmas.{lost_there, lost_makes}
 use Rattle.cluster_sim.proofs.step.packets.lose.Goals as goal
 

@@ -6,7 +6,8 @@ use Rattle.std.proofs.lemmas.Option.{slice_get_read}
 use Rattle.chain_server.specs.ServerStanding.{ServerStanding}
 use Rattle.kr_world.specs.World.{server_at}
 use Rattle.kr_world.specs.Step.{ticks_at}
-use Rattle.cluster_sim.specs.Parts.{world_of, noted, Makes}
+use Rattle.cluster_parts.specs.PartsStanding.{world_of, noted}
+use Rattle.cluster_sim.specs.Parts.{Makes}
 use Rattle.cluster_sim.proofs.PartsLemmas.{IsCarriedOut, server_ticked}
 use Rattle.cluster_sim.proofs.FitLemmas.{tick_fits}
 use Rattle.cluster_sim.proofs.step.turns.tick_at.Goals as goal

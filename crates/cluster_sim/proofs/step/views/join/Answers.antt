@@ -2,8 +2,9 @@ use Rattle.std.proofs.Common.{ap, ◌∙◌, ◌++◌, ◌∷◌, [], false, sub
 use Rattle.std.specs.Prelude.{IfOk}
 use Rattle.kr_protocol.specs.Server.{newcomer}
 use Rattle.kr_world.specs.Step.{joins, manager_tells}
-use Rattle.cluster_sim.specs.BagStanding.{BagStanding}
-use Rattle.cluster_sim.specs.Parts.{world_of, Makes}
+use Rattle.cluster_parts.specs.BagStanding.{BagStanding}
+use Rattle.cluster_parts.specs.PartsStanding.{world_of}
+use Rattle.cluster_sim.specs.Parts.{Makes}
 use Rattle.cluster_sim.proofs.ViewLemmas.{HasAdded, added_whole, added_as, tells_fit, tells_so}
 use Rattle.cluster_sim.proofs.step.views.join.Goals as goal
 

@@ -5,7 +5,8 @@ use Rattle.std.proofs.lemmas.Option.{slice_get_read}
 use Rattle.kr_protocol.specs.Client.{learns}
 use Rattle.kr_world.specs.World.{client_at}
 use Rattle.kr_world.specs.Step.{learns_view}
-use Rattle.cluster_sim.specs.Parts.{world_of, Makes}
+use Rattle.cluster_parts.specs.PartsStanding.{world_of}
+use Rattle.cluster_sim.specs.Parts.{Makes}
 use Rattle.cluster_sim.proofs.ViewLemmas.{client_learnt, learner_there}
 use Rattle.cluster_sim.proofs.step.views.learn.Goals as goal
 

@@ -1,7 +1,8 @@
 use Rattle.std.proofs.Common.{◌≡◌, ◌-◌, sym, subst, arith}
 use Rattle.kr_world.specs.World.{server_at}
 use Rattle.kr_world.specs.Step.{notices, manager_tells}
-use Rattle.cluster_sim.specs.Parts.{world_of, IsWhole}
+use Rattle.cluster_parts.specs.PartsStanding.{world_of}
+use Rattle.cluster_sim.specs.Parts.{IsWhole}
 use Rattle.cluster_sim.proofs.ViewLemmas.{IsNoticed, noticed_of, removed_whole, noticed_as, tells_fit, tells_so}
 use Rattle.cluster_sim.proofs.step.views.notice.Goals as goal
 

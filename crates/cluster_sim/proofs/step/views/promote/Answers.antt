@@ -2,7 +2,8 @@ use Rattle.std.proofs.Common.{◌≡◌, sym, subst}
 use Rattle.std.specs.Prelude.{IfSome}
 use Rattle.kr_protocol.specs.Manager.{promotes}
 use Rattle.kr_world.specs.Step.{joined_at_manager, manager_tells}
-use Rattle.cluster_sim.specs.Parts.{world_of, IsWhole}
+use Rattle.cluster_parts.specs.PartsStanding.{world_of}
+use Rattle.cluster_sim.specs.Parts.{IsWhole}
 use Rattle.cluster_sim.proofs.ViewLemmas.{may_of_some, member_whole, member_as, tells_fit}
 use Rattle.cluster_sim.proofs.step.views.promote.Goals as goal
 

@@ -1,0 +1,3 @@
+mod BagLemmas
+pub mod LinesLemmas
+mod StartLemmas

@@ -1,0 +1,2 @@
+pub mod BagStanding
+pub mod PartsStanding

@@ -1,6 +1,0 @@
-use Rattle.std.proofs.Common.{take}
-use Rattle.cluster_sim.specs.BagStanding.{HasPackets}
-use Rattle.cluster_sim.proofs.bag.spell_all.Given as goal
-
-abbrev pub invariant-loop-packet : goal.invariant-loop-packet
-invariant-loop-packet l = HasPackets l.initial.net l.net (take l.packet-index l.packets)
