@@ -7,11 +7,13 @@ class Order:
     """`pairs` are those that batches added, oldest first; `events` and `dead` are numbers of events.
 
     `where` has for each event in a pair its place, across and down, in units of one event; `bends` has for each pair
-    the places that its line goes through between its ends. `loose` are the events in no pair.
+    the places that its line goes through between its ends. `loose` are the events in no pair. `made`, `bound` and
+    `died` have the places in the history at which an event, a pair and a dead event came to be so.
     """
 
     def __init__(self, history):
         self.pairs, self.after, self.events, self.dead = [], {}, [], set()
+        self.made, self.bound, self.died = {}, {}, {}
         for line in history:
             self.take(line)
         bound = {event for pair in self.pairs for event in pair}
@@ -22,20 +24,24 @@ class Order:
 
     def take(self, line):
         """One entry of the history: place, client, number, command = reply."""
+        place = int(line.split()[0])
         command, reply = (part.split() for part in line.split(" ", 3)[3].split(" = "))
         if reply[0] == "created":
             self.events.append(int(reply[1]))
+            self.made[int(reply[1])] = place
         elif reply == ["count", "0"]:
             self.dead.add(int(command[1]))
+            self.died[int(command[1])] = place
         elif reply[0] == "assigned":
             for sign in "!?":
                 for pair, outcome in zip(command[1:], reply[1:]):
                     if sign in pair and outcome == "kept":
-                        self.add(*(int(event) for event in pair.split(sign)))
+                        self.add(*(int(event) for event in pair.split(sign)), place)
 
-    def add(self, first, second):
+    def add(self, first, second, place):
         if not self.reaches(first, second):
             self.pairs.append((first, second))
+            self.bound[first, second] = place
             self.after.setdefault(first, []).append(second)
 
     def reaches(self, first, second):
