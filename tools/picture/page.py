@@ -1,32 +1,36 @@
-"""Lays out a run and its order, and writes them as one SVG.
+"""Lays out a run and its order, and writes them as one SVG, 850 units wide.
 
-All text is of one width a letter, so what fits where is known before it is drawn. In a row, arrows end at its top and
-begin at its bottom, and the texts stand between, so that no arrow begins or ends on a text of its own row.
+First stands the order of events, large; then the run, a row for each line; then the history. In a row stand, from left
+to right, the line, the columns of clients and servers with the packets as arrows, and what the line led to and why. So
+no arrow comes near those words. All text is of one width a letter: what fits where is known before it is drawn.
 """
 from xml.sax.saxutils import escape
 
-LETTER = 6.05
-LINE = 12
-ROW = 24
-COLUMN = 130
-GUTTER = 214
-WIDEST = 24
-HISTORY = 46
-BAND = 40
-UNIT = 44
-PAPER, INK, SOFT, FAINT, STRIPE = "#fbfaf7", "#22262b", "#6b7076", "#d3d0c8", "#f2f0ea"
-RED, BLUSH, PALE = "#b3261e", "#fbe7e4", "#ececea"
+from .rows import rows
+
+WIDE, EDGE = 850, 14
+TEXT, SMALL, LARGE = 12, 11, 16
+LETTER = 0.603
+LINE, LEAST = 15, 26
+GUTTER, LINE_LETTERS = 158, 15
+UNIT, TALL, ROUND = 92, 56, 19
+AGAIN = 25
+PAPER, INK, SOFT, FAINT, STRIPE = "#fbfaf7", "#1d2125", "#565b61", "#d3d0c8", "#f1efe9"
+RED, BLUSH, PALE, LANE = "#b3261e", "#fbe7e4", "#ececea", "#b9b5ab"
 COLOURS = {
-    "request": "#1f5fbf",
+    "request": "#2a5fd0",
     "append": "#0a7a50",
-    "ack": "#6b7280",
+    "ack": "#62676d",
     "reply": "#a84a06",
-    "view": "#6d3fc4",
+    "view": "#8f62d6",
     "ask": "#0b7285",
     "answer": "#b4236a",
     "refer": "#8a6508",
-    "joined": "#3f3fb8",
+    "joined": "#2b1160",
 }
+STROKES = {"view": 2.4, "joined": 2.4}
+FACTS = {"told": INK, "grown": SOFT, "view": "#6f3fbf", "stop": RED, "refused": RED}
+WORDS = {"c": "client", "s": "server", "m": "manager"}
 
 
 def wrap(text, width, indent=""):
@@ -48,367 +52,368 @@ def wrap(text, width, indent=""):
     return lines
 
 
-def told(words):
-    """What a client was told, or a server shows, without its name; a long line is cut before its last part."""
-    text = " ".join(words[:1] + words[2:])
-    if len(text) <= WIDEST:
-        return [text]
-    if words[0] == "show":
-        return [" ".join(words[:1] + words[2:8]), " ".join(words[8:])]
-    return wrap(" ".join(words[:1] + words[2:5]), WIDEST, " ") + wrap(" " + " ".join(words[5:]), WIDEST, " ")
-
-
 def num(value):
     text = "%.1f" % value
     return text[:-2] if text.endswith(".0") else text
 
 
-class Cell:
-    """A step, and what is written at the left and at the right of its node."""
+class Arrow:
+    """Packets of one kind that go the same way between the same rows, drawn as one."""
 
-    def __init__(self, step, index):
-        self.step, self.index = step, index
-        self.left, self.right = [], []
-
-
-class Row:
-    """A band of the picture: one step, or parts of a round side by side, or the columns' names again (no step)."""
-
-    def __init__(self, cells):
-        self.cells = cells
-        self.step = cells[0].step if cells else None
-        self.gutter, self.history = [], []
-        self.top, self.height = 0, ROW
-
-    def texts(self):
-        return [texts for cell in self.cells for texts in (cell.left, cell.right)]
+    def __init__(self, packet, begin, end, how):
+        self.packet, self.begin, self.end, self.how = packet, begin, end, how
+        self.packets = [packet]
 
 
 class Page:
-    def __init__(self, name, run, order):
-        self.name, self.run, self.order = name, run, order
+    def __init__(self, name, run, order, reasons, all_steps):
+        self.name, self.run, self.order, self.all_steps = name, run, order, all_steps
         self.stripes, self.under, self.arrows, self.over = [], [], [], []
-        self.ends, self.known = {}, 0
+        self.rows = rows(run, reasons, all_steps)
+        self.row_of = {index: row for row in self.rows for index in row.indices}
         self.columns()
-        self.rows = []
-        for row in map(self.row, range(len(run.steps)), run.steps):
-            if row:
-                self.put(row)
-        if len(self.rows) > 2 * BAND:
-            for at in range(BAND * ((len(self.rows) - 1) // BAND), 0, -BAND):
-                self.rows.insert(at, Row([]))
-        self.measure()
+        self.packets = self.pick()
 
     # Where things stand
 
     def columns(self):
+        """The columns of nodes, and how many letters a reason has beside them."""
         run = self.run
         self.nodes = ["c%d" % c for c in range(1, run.clients + 1)] + ["s%d" % s for s in range(1, run.servers + 1)]
-        ends = {end for packet in run.packets.values() for end in (packet.sender, packet.receiver)}
-        if "m" in ends:
+        seen = [packet for packet in run.packets.values() if packet.sent in self.row_of]
+        if any("m" in (packet.sender, packet.receiver) and self.ends(packet) for packet in seen):
             self.nodes.append("m")
-        self.place = {node: at for at, node in enumerate(self.nodes)}
+        self.letters = 40 if len(self.nodes) <= 4 else 34 if len(self.nodes) <= 6 else 31
+        self.words_x = WIDE - EDGE - self.letters * TEXT * LETTER
+        first, last = GUTTER + 24, self.words_x - 40
+        gaps = max(len(self.nodes) - 1, 1)
+        self.gap = (last - first) / gaps
+        self.x = {node: first + at * self.gap for at, node in enumerate(self.nodes)}
 
-    def row(self, index, step):
-        """What is written in the row of a step; a part of a round that shows nothing has none."""
-        cell = Cell(step, index)
-        row = Row([cell])
-        takes = step.words[0] == "deliver"
-        if step.of_round:
-            if not step.lines and not takes:
-                return None
-            row.gutter = wrap("round: " + step.text, 26, "  ")
-        else:
-            row.gutter = wrap(step.text, 26, "  ")
-        if step.refused:
-            row.gutter.append("refused " + step.refused)
-            return row
-        here = self.place.get(step.actor, 0)
-        for line in step.lines:
-            words = line.split()
-            if words[0] in ("told", "part", "show"):
-                cell.right += [(text, INK, "told") for text in told(words)]
-        if step.view:
-            number, chain, joiner = step.view
-            texts = wrap("view %d: %s" % (number, " ".join("s%d" % server for server in chain)), WIDEST, " ")
-            texts += ["s%d joins" % joiner] if joiner else []
-            cell.right += [(text, COLOURS["view"], "told") for text in texts]
-        if step.words[0] == "stop":
-            cell.right.append(("stopped", RED, "told"))
-        for packet in step.sent:
-            side = cell.right if self.place[packet.receiver] > here else cell.left
-            side.append(("%d: %s" % (packet.number, packet.what), self.colour(packet), "sent"))
-        if step.grown:
-            for entry in self.run.history[self.known : step.grown]:
-                row.history += wrap(entry, HISTORY, "    ")
-            self.known = step.grown
-        return row
-
-    def gaps(self, cell):
-        """The gaps between columns that its texts take."""
-        here = self.place.get(cell.step.actor, 0)
-        return {gap for texts, gap in ((cell.right, here), (cell.left, here - 1)) if texts}
-
-    def is_over(self, step, row):
-        """The row has to stand over a part of its round: it has a step of the same node, or the one that sent what the
-        part takes."""
-        sender = self.run.packets[int(step.words[1])].sent if step.words[0] == "deliver" else None
-        return any(cell.step.actor == step.actor or cell.index == sender for cell in row.cells)
-
-    def beside(self, row):
-        """The first row of its round in which a part may stand, beside parts whose texts leave it room, if any."""
-        found, cell = None, row.cells[0]
-        for other in reversed(self.rows):
-            of_this = other.step.of_round and other.step.number == row.step.number and not other.step.refused
-            if not of_this or self.is_over(row.step, other):
-                break
-            if not any(self.gaps(cell) & self.gaps(one) for one in other.cells):
-                found = other
-            if row.history and other.history:
-                break
+    def ends(self, packet):
+        """Where its arrows end: rows and how, `taken`, `lost` or `waits`."""
+        if packet.sent not in self.row_of:
+            return []
+        found = [(self.row_of[taken], "taken") for taken in packet.taken if taken in self.row_of]
+        if packet.lost is not None:
+            found.append((self.row_of[packet.lost], "lost"))
+        elif not packet.taken and (self.all_steps or not self.run.steps[packet.sent].of_round):
+            found.append((self.row_of[packet.sent], "waits"))
         return found
 
-    def put(self, row):
-        """Puts the row under the others, or, where it is a part of a round, beside others of it."""
-        other = self.beside(row) if row.step.of_round and not row.step.refused else None
-        if not other:
-            self.rows.append(row)
-            return
-        other.cells += row.cells
-        other.history += row.history
-        texts = []
-        for step in (cell.step for cell in other.cells):
-            if len(step.words) == 2 and texts and texts[-1].split()[0] == step.words[0]:
-                texts[-1] += " " + step.words[1]
-            else:
-                texts.append(step.text)
-        other.gutter = [line for text in texts for line in wrap("round: " + text, 26, "  ")]
+    def numbered(self, packet):
+        """Whether a line of the script names it, or could."""
+        ends = [end for end in packet.taken + [packet.lost] if end is not None]
+        return self.all_steps or not ends or any(not self.run.steps[end].of_round for end in ends)
 
-    def measure(self):
-        gaps = [COLUMN] * (len(self.nodes))
-        for cell in (cell for row in self.rows for cell in row.cells):
-            if cell.step.actor in self.place:
-                here = self.place[cell.step.actor]
-                for texts, gap in ((cell.right, here), (cell.left, here - 1)):
-                    for text, _, _ in texts:
-                        gaps[gap] = max(gaps[gap], len(text) * LETTER + 26)
-        if not any(cell.right for row in self.rows for cell in row.cells if cell.step.actor == self.nodes[-1]):
-            gaps[-1] = 50
-        self.x = [GUTTER + 14]
-        for gap in gaps[:-1]:
-            self.x.append(self.x[-1] + gap)
-        self.history_x = self.x[-1] + gaps[-1] + 12
-        wide = max([len(text) for row in self.rows for text in row.history] + [16])
-        self.order_x = self.history_x + wide * LETTER + 40
-        self.head = 84
-        top = self.head
+    def pick(self):
+        """The arrows: of those that nobody has to tell apart, one for all."""
+        found = {}
+        for packet in self.run.packets.values():
+            for end, how in self.ends(packet):
+                begin = self.row_of[packet.sent]
+                key = id(begin), id(end), how, packet.sender, packet.receiver, packet.kind
+                if self.numbered(packet) or key not in found:
+                    found[key + ((packet.number,) if self.numbered(packet) else ())] = Arrow(packet, begin, end, how)
+                else:
+                    found[key].packets.append(packet)
+        return list(found.values())
+
+    def label(self, arrow):
+        """What stands beside an arrow: as much as there is room for."""
+        packet = arrow.packet
+        if len(arrow.packets) > 1:
+            return "%d %s" % (len(arrow.packets), packet.kind + "s")
+        number = "%d " % packet.number if self.numbered(packet) else ""
+        full = number + packet.what
+        return full if len(full) * SMALL * LETTER < self.gap - 10 else number + packet.kind
+
+    def labels(self, row):
+        """The labels of the arrows that begin in a row, by node and side."""
+        found, named = {}, set()
+        for arrow in self.packets:
+            if arrow.begin is row and (arrow.packet.number not in named):
+                named.add(arrow.packet.number)
+                side = 1 if self.x[arrow.packet.receiver] > self.x[arrow.packet.sender] else -1
+                found.setdefault((arrow.packet.sender, side), []).append((self.label(arrow), arrow))
+        return found
+
+    def measure(self, top):
         for row in self.rows:
-            deep = max(len(row.gutter), len(row.history), 1, *map(len, row.texts()))
-            row.top, row.height = top, ROW + LINE * (deep - 1)
+            row.line = wrap(row.text, LINE_LETTERS, "  ")
+            row.words = []
+            for text, kind in row.facts:
+                row.words += [(line, FACTS[kind], kind != "grown") for line in wrap(text, self.letters, "  ")]
+            row.words += [(line, SOFT, False) for line in (wrap(row.reason, self.letters) if row.reason else [])]
+            row.labels = self.labels(row)
+            row.inner = any(arrow.begin is row and arrow.end is row and arrow.how == "taken" for arrow in self.packets)
+            deep = max(len(row.line), len(row.words), 1)
+            tags = max([len(texts) for texts in row.labels.values()] + [1])
+            least = 36 + (LINE - 2) * (tags - 1) if row.labels else LEAST
+            row.top, row.height = top, max(LEAST + LINE * (deep - 1), least, 50 if row.inner else 0)
             top += row.height
-        self.bottom = top + 8
-        self.row_of = {cell.index: row for row in self.rows for cell in row.cells}
+            row.again = False
+        self.name_again()
+        return self.rows[-1].top + self.rows[-1].height if self.rows else top
 
-    def colour(self, packet):
-        return COLOURS.get(packet.what.split()[0], SOFT)
+    def name_again(self):
+        """The columns' names once more after some rows, where no arrow goes by."""
+        since, open_to = 0, 0
+        for at, row in enumerate(self.rows):
+            if since >= AGAIN and open_to < at and len(self.rows) - at > 6:
+                self.shift(row)
+                since = 0
+            since += 1
+            ends = [self.rows.index(arrow.end) for arrow in self.packets if arrow.begin is row]
+            open_to = max([open_to] + ends)
 
-    def begin(self, packet):
-        """Where an arrow leaves its sender: at the lower end of its row."""
-        row = self.row_of[packet.sent]
-        return self.x[self.place[packet.sender]], row.top + row.height - 5
+    def shift(self, row):
+        """Room above a row for the columns' names once more."""
+        row.again = True
+        for other in self.rows[self.rows.index(row) :]:
+            other.top += 44
 
     # What is drawn
 
-    def text(self, x, y, text, colour=INK, anchor="start", extra=""):
+    def text(self, x, y, text, colour=INK, size=TEXT, anchor="start", bold=False):
         begin = len(text) - len(text.lstrip())
-        x += begin * LETTER if anchor == "start" else 0
-        end = '" text-anchor="%s' % anchor if anchor != "start" else ""
-        self.over.append(
-            '<text x="%s" y="%s" fill="%s%s"%s>%s</text>' % (num(x), num(y), colour, end, extra, escape(text.strip()))
-        )
+        x += begin * size * LETTER if anchor == "start" else 0
+        end = ' text-anchor="%s"' % anchor if anchor != "start" else ""
+        weight = ' font-weight="bold"' if bold else ""
+        place = num(x), num(y), colour, size, end, weight, escape(text.strip())
+        self.over.append('<text x="%s" y="%s" fill="%s" font-size="%s"%s%s>%s</text>' % place)
 
-    def draw_rows(self):
-        stripe = False
-        last = None
-        for row in self.rows:
-            if not row.step:
-                self.names(row.top + 16)
-                continue
-            number = row.step.number
-            stripe = stripe != (number != last)
-            shade = BLUSH if row.step.refused else STRIPE if stripe else None
-            if shade:
-                box = (10, num(row.top), num(self.history_x - 12), num(row.height), shade)
-                self.stripes.append('<rect x="%s" y="%s" width="%s" height="%s" fill="%s"/>' % box)
-            y = row.top + 15
-            if number != last:
-                self.text(42, y, str(number), SOFT, "end")
-            last = number
-            for at, text in enumerate(row.gutter):
-                red = row.step.refused and text.startswith("refused ")
-                soft = SOFT if row.step.of_round else INK
-                self.text(52, y + LINE * at, text, RED if red else soft)
-            for cell in row.cells:
-                self.draw_cell(row, cell, y)
-            for at, text in enumerate(row.history):
-                self.text(self.history_x, y + LINE * at, text)
+    def heading(self, y, text, note):
+        self.text(EDGE, y, text, INK, 14, bold=True)
+        self.text(EDGE + len(text) * 14 * LETTER + 18, y, note, SOFT, SMALL)
 
-    def draw_cell(self, row, cell, y):
-        if cell.step.actor not in self.place:
-            return
-        x = self.x[self.place[cell.step.actor]]
-        if cell.step.words[0] == "stop":
-            end = row.top + ROW / 2
-            self.arrows.append(
-                '<path d="M%s %sh16M%s %sl10 10m0 -10l-10 10" stroke="%s" stroke-width="2.5" fill="none"/>'
-                % (num(x - 8), num(end), num(x - 5), num(end - 5), RED)
-            )
+    def draw_legend(self, y):
+        """What the lines mean: a short piece of each kind that is there."""
+        used = {arrow.packet.kind for arrow in self.packets}
+        x = EDGE
+        for kind in [kind for kind in COLOURS if kind in used]:
+            if x + 40 + len(kind) * SMALL * LETTER > WIDE - EDGE:
+                x, y = EDGE, y + 18
+            self.arrow((x, y - 4), (x + 26, y - 4), kind, "")
+            self.text(x + 31, y, kind, COLOURS[kind], SMALL, bold=True)
+            x += 31 + len(kind) * SMALL * LETTER + 16
+        for how, note in (("lost", "lost"), ("waits", "under way to the end: nobody took it")):
+            if any(arrow.how == how for arrow in self.packets):
+                if x + 40 + len(note) * SMALL * LETTER > WIDE - EDGE:
+                    x, y = EDGE, y + 18
+                self.mark(x, y, how)
+                self.text(x + 31, y, note, SOFT, SMALL)
+                x += 31 + len(note) * SMALL * LETTER + 16
+        return y
+
+    def mark(self, x, y, how):
+        if how == "lost":
+            self.arrows.append('<path d="M%s %sh16" stroke="%s" stroke-dasharray="5 4"/>' % (num(x), num(y - 4), SOFT))
+            self.cross(x + 21, y - 4)
         else:
-            box = (num(x - 3), num(row.top + 3), num(row.height - 6), SOFT)
-            self.under.append('<rect x="%s" y="%s" width="6" height="%s" rx="3" fill="%s"/>' % box)
-        for at, (text, colour, kind) in enumerate(cell.right):
-            self.text(x + 9, y + LINE * at, text, colour, "start", ' font-weight="bold"' if kind == "told" else "")
-        for at, (text, colour, _) in enumerate(cell.left):
-            self.text(x - 9, y + LINE * at, text, colour, "end")
+            self.arrows.append('<path d="M%s %sh18" stroke="%s"/>' % (num(x), num(y - 4), SOFT))
+            self.ring(x + 21, y - 4, SOFT)
 
-    def draw_packet(self, packet):
-        """Its arrows; of several that nobody took the ends stand in a row."""
-        x, y = self.begin(packet)
-        colour = self.colour(packet)
-        kind = packet.what.split()[0] if colour != SOFT else "pair"
-        to = self.x[self.place[packet.receiver]]
-        way = 1 if to > x else -1
-        x += 3 * way
-        told = "packet %d from %s to %s: %s" % (packet.number, packet.sender, packet.receiver, packet.what)
-        for index in packet.taken:
-            end = self.row_of[index].top + 4
-            self.arrows.append(
-                '<path d="M%s %sL%s %s" stroke="%s" marker-end="url(#%s)"><title>%s</title></path>'
-                % (num(x), num(y), num(to - 4 * way), num(end), colour, kind, told)
-            )
-        if packet.lost is not None:
-            row = self.row_of[packet.lost]
-            cross = x + (to - x) * 0.62, row.top + row.height / 2
-            self.arrows.append(
-                '<path d="M%s %sL%s %s" stroke="%s" stroke-dasharray="5 4"><title>%s, lost</title></path>'
-                '<path d="M%s %sl8 8m0 -8l-8 8" stroke="%s" stroke-width="2"/>'
-                % (num(x), num(y), num(cross[0]), num(cross[1]), colour, told, num(cross[0] - 4), num(cross[1] - 4), RED)
-            )
-        elif not packet.taken:
-            far = 20 + 8 * self.ends.get((packet.sent, way), 0)
-            self.ends[packet.sent, way] = self.ends.get((packet.sent, way), 0) + 1
-            self.arrows.append(
-                '<path d="M%s %sl%s 5" stroke="%s"><title>%s, not taken</title></path>'
-                '<circle cx="%s" cy="%s" r="2.5" stroke="%s"/>'
-                % (num(x), num(y), num(far * way), colour, told, num(x + (far + 2) * way), num(y + 5.5), colour)
-            )
+    def cross(self, x, y):
+        self.arrows.append('<path d="M%s %sl8 8m0 -8l-8 8" stroke="%s" stroke-width="2"/>' % (num(x - 4), num(y - 4), RED))
 
-    def names(self, y):
-        words = {"c": "client ", "s": "server ", "m": "manager"}
-        for node, x in zip(self.nodes, self.x):
-            self.text(x, y, words[node[0]] + node[1:], SOFT, "middle", ' font-weight="bold"')
+    def ring(self, x, y, colour):
+        self.arrows.append('<circle cx="%s" cy="%s" r="3" stroke="%s"/>' % (num(x), num(y), colour))
 
-    def draw_lines(self):
-        for node, x in zip(self.nodes, self.x):
-            begin, end = self.head - 14, self.bottom
-            if node[0] == "s":
-                server = int(node[1:])
-                if server in self.run.joined_at:
-                    begin = self.row_of[self.run.joined_at[server]].top
-                if server in self.run.stopped:
-                    end = self.row_of[self.run.stopped[server]].top + ROW / 2
-            self.under.append('<path d="M%s %sV%s" stroke="%s"/>' % (num(x), num(begin), num(end), "#b9b5ab"))
-        self.under.append(
-            '<path d="M%s %sV%s" stroke="%s"/>'
-            % (num(self.history_x - 12), num(self.head - 34), num(self.bottom), FAINT)
-        )
+    def arrow(self, begin, end, kind, told, dashed=False):
+        title = "<title>%s</title>" % told if told else ""
+        look = ' stroke-dasharray="5 4"' if dashed else ' marker-end="url(#%s)"' % kind
+        if kind in STROKES:
+            look += ' stroke-width="%s"' % STROKES[kind]
+        place = num(begin[0]), num(begin[1]), num(end[0]), num(end[1]), COLOURS[kind], look, title
+        shape = '<path d="M%s %sL%s %s" stroke="%s"%s' % place[:6]
+        self.arrows.append("%s>%s</path>" % (shape, title) if title else shape + "/>")
 
-    def legend(self):
-        self.text(20, 27, self.name, INK, "start", ' font-size="14" font-weight="bold"')
-        kinds = [kind for kind in COLOURS if any(p.what.split()[0] == kind for p in self.run.packets.values())]
-        x = 20 + len(self.name) * LETTER * 1.4 + 24
-        for kind in kinds:
-            self.text(x, 27, kind, COLOURS[kind], "start", ' font-weight="bold"')
-            x += (len(kind) + 2) * LETTER
-        self.legend_end = x
-        self.text(52, self.head - 20, "step", SOFT, "start", ' font-weight="bold"')
-        self.text(self.history_x, self.head - 20, "history", SOFT, "start", ' font-weight="bold"')
-        self.names(self.head - 20)
+    def draw_names(self, y):
+        for node in self.nodes:
+            self.text(self.x[node], y, WORDS[node[0]], SOFT, 10, "middle")
+            self.text(self.x[node], y + 14, node, INK, TEXT, "middle", True)
 
-    def draw_order(self):
-        """The graph at the right: its right and its lower edge."""
-        order, left, top = self.order, self.order_x + 18, self.head + 20
-        if not order.events:
-            return self.order_x - 16, 0
-        self.text(self.order_x, self.head - 20, "order at the end", SOFT, "start", ' font-weight="bold"')
-        spot = {event: (left + x * UNIT, top + y * UNIT * 1.15) for event, (x, y) in order.where.items()}
-        right = max([x for x, _ in spot.values()] + [self.order_x + 90])
-        low = max([y for _, y in spot.values()] + [top - UNIT])
-        across = max(6, int((right - left) / UNIT) + 1)
+    def draw_row(self, row, stripe, first):
+        shade = BLUSH if row.refused else STRIPE if stripe else None
+        if row.again:
+            self.draw_names(row.top - 24)
+        if shade:
+            place = num(row.top), WIDE - 12, num(row.height), shade
+            self.stripes.append('<rect x="6" y="%s" width="%s" height="%s" fill="%s"/>' % place)
+        y = row.top + 17
+        if first:
+            self.text(40, y, str(row.number), SOFT, SMALL, "end")
+        for at, text in enumerate(row.line):
+            self.text(48, y + LINE * at, text, SOFT if row.of_round else INK)
+        for at, (text, colour, bold) in enumerate(row.words):
+            self.text(self.words_x, y + LINE * at, text, colour, TEXT, bold=bold)
+        for index in row.indices:
+            self.draw_act(row, self.run.steps[index])
+        for (node, side), labels in row.labels.items():
+            for at, (text, arrow) in enumerate(labels):
+                x, low = self.x[node] + 8 * side, row.top + 23 + (LINE - 2) * at
+                self.text(x, low, text, COLOURS[arrow.packet.kind], SMALL, "start" if side > 0 else "end")
+                if arrow.how == "waits":
+                    self.draw_waiting(arrow, x + (len(text) * SMALL * LETTER + 4) * side, low - 4, side)
+
+    def draw_act(self, row, step):
+        """The mark of a node that does something in the row; the end of one that stops."""
+        if step.actor not in self.x or step.refused:
+            return
+        x = self.x[step.actor]
+        if step.words[0] == "stop":
+            y = row.top + row.height / 2
+            self.arrows.append('<path d="M%s %sh18" stroke="%s" stroke-width="3"/>' % (num(x - 9), num(y), RED))
+            self.cross(x, y)
+            return
+        place = num(x - 3.5), num(row.top + 4), num(row.height - 8), SOFT
+        self.under.append('<rect x="%s" y="%s" width="7" height="%s" rx="3" fill="%s"/>' % place)
+
+    def begin(self, arrow, way):
+        """How low an arrow leaves its sender: several of one row one under another, and what a round repeats at its top."""
+        step, row = self.run.steps[arrow.packet.sent], arrow.begin
+        if step.words[0] in ("tick", "retry") and row.of_round and not self.all_steps:
+            return row.top + 8
+        beside = [label[1] for label in row.labels[arrow.packet.sender, way] if label[1].how != "waits"]
+        numbers = [other.packet.number for other in beside]
+        after = len(numbers) - 1 - numbers.index(arrow.packet.number) if arrow.packet.number in numbers else 0
+        return row.top + row.height - 5 - min(3 * after, 9)
+
+    def draw_packet(self, arrow):
+        packet, row = arrow.packet, arrow.end
+        way = 1 if self.x[packet.receiver] > self.x[packet.sender] else -1
+        begin = self.x[packet.sender] + 4 * way, self.begin(arrow, way)
+        end = self.x[packet.receiver] - 5 * way, row.top + (row.height - 10 if row is arrow.begin else 7)
+        told = "; ".join("packet %d from %s to %s: %s" % (p.number, p.sender, p.receiver, p.what) for p in arrow.packets)
+        if arrow.how == "taken":
+            self.arrow(begin, end, packet.kind, told)
+        elif arrow.how == "lost":
+            end = begin[0] + (end[0] - begin[0]) * 0.6, row.top + row.height / 2
+            self.arrow(begin, end, packet.kind, told + ", lost", True)
+            self.cross(*end)
+
+    def draw_waiting(self, arrow, x, y, side):
+        """A packet that nobody took: a short line with a circle, behind its label."""
+        packet = arrow.packet
+        place = num(x), num(y), 9 * side, COLOURS[packet.kind]
+        told = "packet %d from %s to %s: %s, not taken" % (packet.number, packet.sender, packet.receiver, packet.what)
+        self.arrows.append('<path d="M%s %sh%s" stroke="%s"><title>%s</title></path>' % (*place, told))
+        self.ring(x + 12 * side, y, COLOURS[packet.kind])
+
+    def draw_lanes(self, top, bottom):
+        for node in self.nodes:
+            begin, end = top, bottom
+            server = int(node[1:]) if node[0] == "s" else 0
+            if server in self.run.joined_at:
+                begin = self.row_of[self.run.joined_at[server]].top
+            if server in self.run.stopped:
+                row = self.row_of[self.run.stopped[server]]
+                end = row.top + row.height / 2
+            self.under.append('<path d="M%s %sV%s" stroke="%s"/>' % (num(self.x[node]), num(begin), num(end), LANE))
+
+    def draw_run(self, top):
+        self.heading(top, "The run", "a line of the script each%s" % (
+            "; of a round, what mattered" if not self.all_steps and any(row.of_round for row in self.rows) else ""))
+        top = self.draw_legend(top + 22) + 28
+        self.text(48, top + 14, "line", SOFT, TEXT, bold=True)
+        self.text(self.words_x, top + 14, "what it led to, and why", SOFT, TEXT, bold=True)
+        self.draw_names(top)
+        bottom = self.measure(top + 24)
+        self.draw_lanes(top + 20, bottom + 4)
+        stripe, last = False, None
+        for row in self.rows:
+            stripe = stripe != (row.number != last)
+            self.draw_row(row, stripe, row.number != last)
+            last = row.number
+        for arrow in self.packets:
+            self.draw_packet(arrow)
+        return bottom
+
+    def draw_history(self, top):
+        self.heading(top, "The history", "place, client, its number of the command, command = reply")
+        top += 24
+        for entry in self.run.history:
+            for text in wrap(entry, 112, "    "):
+                self.text(EDGE + 8, top, text)
+                top += LINE + 2
+        if not self.run.history:
+            self.text(EDGE + 8, top, "empty", SOFT)
+            top += LINE + 2
+        return top
+
+    def spots(self, top):
+        """Where each event stands, from left to right, and what the lowest is."""
+        order, left = self.order, EDGE + 26
+        deep = max([y for _, y in order.where.values()] + [0])
+        self.unit = min(UNIT, (WIDE - 2 * left) / max(deep, 1))
+        spot = {event: (left + y * self.unit, top + x * TALL) for event, (x, y) in order.where.items()}
+        low = max([y for _, y in spot.values()] + [top - TALL])
+        across = int((WIDE - 2 * left) / UNIT) + 1
         for at, event in enumerate(order.loose):
-            spot[event] = left + (at % across) * UNIT, low + UNIT * (1.3 + at // across)
+            spot[event] = left + (at % across) * UNIT, low + TALL * (1 + at // across)
+        return spot, max([y for _, y in spot.values()] + [top])
+
+    def draw_order(self, top):
+        """The graph at the top: its lower edge."""
+        order = self.order
+        if not order.events:
+            return top - 14
+        note = "an arrow leads from an event to one that is after it" if order.pairs else "no event is bound to another"
+        self.heading(top, "The order at the end", note + ("; pale: let go of" if order.dead else ""))
+        spot, low = self.spots(top + 40)
         for a, b in order.pairs:
-            self.draw_pair(a, b, spot, left, top)
+            self.draw_pair(a, b, spot, EDGE + 26, top + 40)
         for event, (x, y) in sorted(spot.items()):
             dead = event in order.dead
-            look = (PALE, FAINT, ' stroke-dasharray="3 2"') if dead else ("#ffffff", INK, "")
-            self.under.append(
-                '<circle cx="%s" cy="%s" r="13" fill="%s" stroke="%s"%s/>' % (num(x), num(y), *look)
-            )
-            self.text(x, y + 3.5, str(event), "#9a9a94" if dead else INK, "middle")
-            right, low = max(right, x), max(low, y)
-        if order.dead:
-            low += 34
-            self.text(self.order_x, low, "pale: dead", SOFT)
-            right = max(right, self.order_x + 70)
-        return right + 20, low + 20
+            look = (PALE, "#8d8a83", ' stroke-dasharray="4 3"') if dead else ("#ffffff", INK, "")
+            place = (num(x), num(y), ROUND) + look
+            self.under.append('<circle cx="%s" cy="%s" r="%s" fill="%s" stroke="%s" stroke-width="1.6"%s/>' % place)
+            self.text(x, y + 5.5, str(event), "#6f6c66" if dead else INK, LARGE, "middle", not dead)
+        return low + ROUND + 40
 
     def draw_pair(self, a, b, spot, left, top):
-        way = [spot[a]] + [(left + x * UNIT, top + y * UNIT * 1.15) for x, y in self.order.bends[a, b]] + [spot[b]]
+        bends = [(left + y * self.unit, top + x * TALL) for x, y in self.order.bends[a, b]]
+        way = [spot[a]] + bends + [spot[b]]
 
         def towards(end, other):
             dx, dy = other[0] - end[0], other[1] - end[1]
             far = (dx * dx + dy * dy) ** 0.5 or 1
-            return end[0] + dx / far * 14, end[1] + dy / far * 14
+            return end[0] + dx / far * (ROUND + 2), end[1] + dy / far * (ROUND + 2)
 
         way[0], way[-1] = towards(way[0], way[1]), towards(way[-1], way[-2])
-        path = "M%s %s" % (num(way[0][0]), num(way[0][1]))
-        path += "".join("L%s %s" % (num(x), num(y)) for x, y in way[1:])
+        path = "M" + "L".join("%s %s" % (num(x), num(y)) for x, y in way)
         faint = a in self.order.dead or b in self.order.dead
+        look = ("#a5a29a", "pale") if faint else (INK, "pair")
         self.arrows.append(
-            '<path d="%s" stroke="%s" stroke-linejoin="round" marker-end="url(#%s)"><title>%d before %d</title></path>'
-            % (path, "#b5b2aa" if faint else SOFT, "pale" if faint else "pair", a, b)
+            '<path d="%s" stroke="%s" stroke-width="1.8" stroke-linejoin="round" marker-end="url(#%s)">'
+            "<title>%d before %d</title></path>" % (path, *look, a, b)
         )
 
     def svg(self):
-        self.legend()
-        self.draw_lines()
-        self.draw_rows()
-        for packet in self.run.packets.values():
-            self.draw_packet(packet)
-        right, low = self.draw_order()
-        right = max(right, self.legend_end, self.history_x + 120) + 16
-        low = max(self.bottom, low) + 12
-        marks = dict(COLOURS, pair=SOFT, pale="#b5b2aa")
-        used = {kind for kind in marks if any("url(#%s)" % kind in line for line in self.arrows)}
+        self.text(EDGE, 30, self.name.replace("_", " "), INK, LARGE, bold=True)
+        low = self.draw_order(64)
+        low = self.draw_run(low)
+        low = self.draw_history(low + 38) + 4
+        marks = dict(COLOURS, pair=INK, pale="#a5a29a")
+        used = [kind for kind in marks if any("url(#%s)" % kind in line for line in self.arrows)]
         heads = "".join(
-            '<marker id="%s" viewBox="0 0 8 8" refX="7.5" refY="4" markerWidth="7" markerHeight="7" orient="auto">'
-            '<path d="M0 .5L8 4L0 7.5z" fill="%s"/></marker>' % (kind, marks[kind])
-            for kind in marks
-            if kind in used
+            '<marker id="%s" viewBox="0 0 8 8" refX="7.5" refY="4" markerWidth="9" markerHeight="9"'
+            ' markerUnits="userSpaceOnUse" orient="auto"><path d="M0 .5L8 4L0 7.5z" fill="%s"/></marker>' % (kind, marks[kind])
+            for kind in used
         )
-        size = num(right), num(low)
+        size = WIDE, num(low)
         return "\n".join(
             [
                 '<svg xmlns="http://www.w3.org/2000/svg" width="%s" height="%s" viewBox="0 0 %s %s" role="img"' % (size * 2),
-                ' font-family="ui-monospace, SFMono-Regular, Menlo, Consolas, \'DejaVu Sans Mono\', monospace" font-size="10">',
+                ' font-family="ui-monospace, SFMono-Regular, Menlo, Consolas, \'DejaVu Sans Mono\', monospace">',
                 "<title>%s</title>" % escape(self.name),
                 "<defs>%s</defs>" % heads,
                 '<rect x=".5" y=".5" width="%s" height="%s" rx="8" fill="%s" stroke="%s"/>'
-                % (num(right - 1), num(low - 1), PAPER, FAINT),
+                % (WIDE - 1, num(low - 1), PAPER, FAINT),
                 *self.stripes,
                 *self.under,
-                '<g fill="none" stroke-width="1.3">',
+                '<g fill="none" stroke-width="1.4">',
                 *self.arrows,
                 "</g>",
                 '<g paint-order="stroke" stroke="%s" stroke-width="3" stroke-linejoin="round">' % PAPER,
@@ -420,5 +425,5 @@ class Page:
         )
 
 
-def draw(name, run, order):
-    return Page(name, run, order).svg()
+def draw(name, run, order, reasons, all_steps):
+    return Page(name, run, order, reasons, all_steps).svg()
