@@ -18,11 +18,11 @@ AGAIN = 25
 PAPER, INK, SOFT, FAINT, STRIPE = "#fbfaf7", "#1d2125", "#565b61", "#d3d0c8", "#f1efe9"
 RED, BLUSH, PALE, LANE = "#b3261e", "#fbe7e4", "#ececea", "#b9b5ab"
 COLOURS = {
-    "request": "#2a5fd0",
+    "request": "#2348a8",
     "append": "#0a7a50",
     "ack": "#62676d",
     "reply": "#a84a06",
-    "view": "#8f62d6",
+    "view": "#8050c8",
     "ask": "#0b7285",
     "answer": "#b4236a",
     "refer": "#8a6508",
@@ -369,7 +369,7 @@ class Page:
             look = (PALE, "#8d8a83", ' stroke-dasharray="4 3"') if dead else ("#ffffff", INK, "")
             place = (num(x), num(y), ROUND) + look
             self.under.append('<circle cx="%s" cy="%s" r="%s" fill="%s" stroke="%s" stroke-width="1.6"%s/>' % place)
-            self.text(x, y + 5.5, str(event), "#6f6c66" if dead else INK, LARGE, "middle", not dead)
+            self.text(x, y + 5.5, str(event), "#67645d" if dead else INK, LARGE, "middle", not dead)
         return low + ROUND + 40
 
     def draw_pair(self, a, b, spot, left, top):

@@ -86,7 +86,7 @@ def program():
 def output(words, text):
     """What the program prints for a script: its status and its lines. What it says besides is passed on."""
     try:
-        done = subprocess.run(words + ["script"], input=text, stdout=subprocess.PIPE)
+        done = subprocess.run([*words, "script"], input=text, stdout=subprocess.PIPE)
     except OSError as error:
         raise Stop(2, "no program: %s: %s" % (words[0], error.strerror))
     return done.returncode, done.stdout.decode().splitlines()

@@ -1,6 +1,10 @@
 """The table of a run: each line of its script, what it led to, and why."""
+import os
 import re
 
+from . import steps, why
+
+EXAMPLES = os.path.join(os.path.dirname(os.path.dirname(os.path.dirname(os.path.abspath(__file__)))), "examples")
 BLOCK = re.compile(r"(<!-- tools/tell (\w+) -->\n)(.*?)(<!-- end of \2 -->\n)", re.S)
 
 
@@ -59,8 +63,8 @@ def markdown(run, reasons):
     if 0 in reasons:
         lines.append("| | `%s` | | %s |" % (run.first, reasons[0]))
     for group in groups(run, reasons):
-        why = reasons.get(group.number, "").replace("|", "\\|")
-        cells = str(group.number), group.line(), "<br>".join(group.led_to()), why
+        reason = reasons.get(group.number, "").replace("|", "\\|")
+        cells = str(group.number), group.line(), "<br>".join(group.led_to()), reason
         lines.append("| " + " | ".join(cells) + " |")
     return [re.sub(r"\|  +(?=\|)", "| ", line) for line in lines]
 
@@ -76,3 +80,27 @@ def with_tables(text, tables):
         return found[1] + "\n" + "\n".join(tables[found[2]]) + "\n\n" + found[4]
 
     return BLOCK.sub(block, text)
+
+
+def tell(name):
+    """The lines of the table of a run."""
+    path = name if name.endswith(".script") else os.path.join(EXAMPLES, name + ".script")
+    script = steps.read(path)
+    reasons = why.read(path, script)
+    return markdown(steps.follow(steps.program(), script), reasons)
+
+
+def pages(paths, write):
+    """Makes the tables of pages anew, or compares: how many differ."""
+    differ = 0
+    for path in paths:
+        with open(path, encoding="utf-8") as file:
+            text = file.read()
+        made = with_tables(text, {name: tell(name) for name in names(text)})
+        if made != text and write:
+            with open(path, "w", encoding="utf-8") as file:
+                file.write(made)
+        elif made != text:
+            differ += 1
+            print("tell: a table of %s is not what tools/tell makes; tools/tell --write %s mends it" % (path, path))
+    return differ
