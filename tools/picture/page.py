@@ -4,6 +4,7 @@ First stands the order of events, large; then the run, a row for each line; then
 to right, the line, the columns of clients and servers with the packets as arrows, and what the line led to and why. So
 no arrow comes near those words. All text is of one width a letter: what fits where is known before it is drawn.
 """
+import re
 from xml.sax.saxutils import escape
 
 from .rows import rows
@@ -30,6 +31,7 @@ COLOURS = {
 }
 STROKES = {"view": 2.4, "joined": 2.4}
 FACTS = {"told": INK, "grown": SOFT, "view": "#6f3fbf", "stop": RED, "refused": RED}
+PLURAL = {"reply": "replies"}
 WORDS = {"c": "client", "s": "server", "m": "manager"}
 
 
@@ -50,6 +52,12 @@ def wrap(text, width, indent=""):
                 word = word[room:]
                 lines.append(indent)
     return lines
+
+
+def wrap_fact(text, width):
+    """A line of a transcript, where a number stays with its word."""
+    whole = re.sub(r"\b(view|log|done|held|pairs|waiting|at|by) (?=\S)", "\\1\0", text)
+    return [line.replace("\0", " ") for line in wrap(whole, width, "  ")]
 
 
 def num(value):
@@ -119,31 +127,38 @@ class Page:
                     found[key].packets.append(packet)
         return list(found.values())
 
-    def label(self, arrow):
-        """What stands beside an arrow: as much as there is room for."""
-        packet = arrow.packet
-        if len(arrow.packets) > 1:
-            return "%d %s" % (len(arrow.packets), packet.kind + "s")
-        number = "%d " % packet.number if self.numbered(packet) else ""
-        full = number + packet.what
-        return full if len(full) * SMALL * LETTER < self.gap - 10 else number + packet.kind
+    def label(self, arrows):
+        """What stands beside arrows, which are several where nobody has to tell them apart: as much as has room."""
+        packets = [packet for arrow in arrows for packet in arrow.packets]
+        kind = packets[0].kind
+        if len(packets) > 1:
+            return "%d %s" % (len(packets), PLURAL.get(kind, kind + "s"))
+        number = "%d " % packets[0].number if self.numbered(packets[0]) else ""
+        full = number + packets[0].what
+        return full if len(full) * SMALL * LETTER < self.gap - 10 else number + kind
 
     def labels(self, row):
-        """The labels of the arrows that begin in a row, by node and side."""
-        found, named = {}, set()
+        """The labels of the arrows that begin in a row, by node and side, each with its arrows."""
+        found = {}
         for arrow in self.packets:
-            if arrow.begin is row and (arrow.packet.number not in named):
-                named.add(arrow.packet.number)
-                side = 1 if self.x[arrow.packet.receiver] > self.x[arrow.packet.sender] else -1
-                found.setdefault((arrow.packet.sender, side), []).append((self.label(arrow), arrow))
-        return found
+            if arrow.begin is row:
+                packet = arrow.packet
+                side = 1 if self.x[packet.receiver] > self.x[packet.sender] else -1
+                same = packet.number if self.numbered(packet) else packet.kind
+                found.setdefault((packet.sender, side), {}).setdefault(same, []).append(arrow)
+        return {place: [(self.tag(arrows), arrows) for arrows in tags.values()] for place, tags in found.items()}
+
+    def tag(self, arrows):
+        """The label of arrows; one packet that was taken several times has several arrows and one label."""
+        first = arrows[0].packet
+        return self.label([arrows[0]] if all(arrow.packet is first for arrow in arrows) else arrows)
 
     def measure(self, top):
         for row in self.rows:
             row.line = wrap(row.text, LINE_LETTERS, "  ")
             row.words = []
             for text, kind in row.facts:
-                row.words += [(line, FACTS[kind], kind != "grown") for line in wrap(text, self.letters, "  ")]
+                row.words += [(line, FACTS[kind], kind != "grown") for line in wrap_fact(text, self.letters)]
             row.words += [(line, SOFT, False) for line in (wrap(row.reason, self.letters) if row.reason else [])]
             row.labels = self.labels(row)
             row.inner = any(arrow.begin is row and arrow.end is row and arrow.how == "taken" for arrow in self.packets)
@@ -197,17 +212,21 @@ class Page:
             self.arrow((x, y - 4), (x + 26, y - 4), kind, "")
             self.text(x + 31, y, kind, COLOURS[kind], SMALL, bold=True)
             x += 31 + len(kind) * SMALL * LETTER + 16
-        for how, note in (("lost", "lost"), ("waits", "under way to the end: nobody took it")):
-            if any(arrow.how == how for arrow in self.packets):
+        notes = ("bar", "acts in the line"), ("lost", "lost"), ("waits", "under way to the end: nobody took it")
+        for how, note in notes:
+            if how == "bar" or any(arrow.how == how for arrow in self.packets):
                 if x + 40 + len(note) * SMALL * LETTER > WIDE - EDGE:
                     x, y = EDGE, y + 18
                 self.mark(x, y, how)
-                self.text(x + 31, y, note, SOFT, SMALL)
-                x += 31 + len(note) * SMALL * LETTER + 16
+                x += 14 if how == "bar" else 31
+                self.text(x, y, note, SOFT, SMALL)
+                x += len(note) * SMALL * LETTER + 16
         return y
 
     def mark(self, x, y, how):
-        if how == "lost":
+        if how == "bar":
+            self.under.append('<rect x="%s" y="%s" width="7" height="14" rx="3" fill="%s"/>' % (num(x + 2), num(y - 11), SOFT))
+        elif how == "lost":
             self.arrows.append('<path d="M%s %sh16" stroke="%s" stroke-dasharray="5 4"/>' % (num(x), num(y - 4), SOFT))
             self.cross(x + 21, y - 4)
         else:
@@ -251,7 +270,7 @@ class Page:
         for index in row.indices:
             self.draw_act(row, self.run.steps[index])
         for (node, side), labels in row.labels.items():
-            for at, (text, arrow) in enumerate(labels):
+            for at, (text, (arrow, *_)) in enumerate(labels):
                 x, low = self.x[node] + 8 * side, row.top + 23 + (LINE - 2) * at
                 self.text(x, low, text, COLOURS[arrow.packet.kind], SMALL, "start" if side > 0 else "end")
                 if arrow.how == "waits":
@@ -275,8 +294,8 @@ class Page:
         step, row = self.run.steps[arrow.packet.sent], arrow.begin
         if step.words[0] in ("tick", "retry") and row.of_round and not self.all_steps:
             return row.top + 8
-        beside = [label[1] for label in row.labels[arrow.packet.sender, way] if label[1].how != "waits"]
-        numbers = [other.packet.number for other in beside]
+        beside = [other for _, arrows in row.labels[arrow.packet.sender, way] for other in arrows if other.how != "waits"]
+        numbers = list(dict.fromkeys(other.packet.number for other in beside))
         after = len(numbers) - 1 - numbers.index(arrow.packet.number) if arrow.packet.number in numbers else 0
         return row.top + row.height - 5 - min(3 * after, 9)
 
@@ -360,7 +379,7 @@ class Page:
         if not order.events:
             return top - 14
         note = "an arrow leads from an event to one that is after it" if order.pairs else "no event is bound to another"
-        self.heading(top, "The order at the end", note + ("; pale: let go of" if order.dead else ""))
+        self.heading(top, "The order at the end", note + ("; pale: dead" if order.dead else ""))
         spot, low = self.spots(top + 40)
         for a, b in order.pairs:
             self.draw_pair(a, b, spot, EDGE + 26, top + 40)
