@@ -38,7 +38,7 @@ def facts(steps):
 
 def seen(run, step):
     """Whether a part of a round stands in the short picture: it matters, or has to do with a packet of a plain line."""
-    touched = [run.packets[int(step.words[1])]] if step.words[0] == "deliver" else []
+    touched = [run.packets[int(step.words[1])]] if step.words[0] == "deliver" and not step.refused else []
     if step.matters or any(not run.steps[packet.sent].of_round for packet in touched):
         return True
     ends = [end for packet in step.sent for end in packet.taken + [packet.lost] if end is not None]
