@@ -1,0 +1,4 @@
+pub mod Views
+pub mod Own
+pub mod Commands
+pub mod Close
