@@ -4,7 +4,7 @@ use Rattle.std.specs.Prelude.{map, count_by, sum_by}
 use Rattle.std.specs.List.{range_with_len}
 use Rattle.std.proofs.lemmas.Bool.{eqb-true, eq-eqb, false≢true, or_cases, or_left, or_right, cases_eq, cases_lt}
 use Rattle.std.proofs.lemmas.List.FromFn.{length-map-range_with_len, get_or-map-range_with_len, sum_by-map-range_with_len_more}
-use Rattle.std.proofs.lemmas.List.{ext_get_or}
+use Rattle.std.proofs.lemmas.List.{ext_get_or, get_or_past}
 use Rattle.std.proofs.lemmas.List.Sums.{sum-map}
 use Rattle.kr_order.specs.Order.{reach}
 use Rattle.kr_order.proofs.OrderLemmas.{reach-trans}
@@ -15,7 +15,7 @@ use Rattle.clock_import.specs.Log.{IsLog, line_at}
 use Rattle.clock_import.specs.Pairs.{pairs_of_log}
 use Rattle.clock_import.specs.Links.{number_in, link_of, LeadsTo}
 use Rattle.clock_import.specs.Clocks.{knows, component, clock_of}
-use Rattle.clock_import.specs.Joins.{part_in, part_of, joined_at, clock_at}
+use Rattle.clock_import.specs.Joins.{part_in, part_of, joined_at, clock_at, join_at, clock_of_event}
 use Rattle.clock_import.proofs.LatestLemmas.{number_yes, number_no, number_rises, Sees, latest_sees}
 use Rattle.clock_import.proofs.PairLemmas.{AreGood, IsLed, pairs_led, leads_said}
 use Rattle.clock_import.proofs.StepLemmas.{IsOrReaches, last_step}
@@ -254,3 +254,24 @@ pub record AreClocked (processes : ℕ) (lines : List LogLine) (order : List ℕ
   pub many : length events ≡ length lines
   pub processes_are : (e : ℕ) → e < length lines → (get_or events e (record { process = 0; clock = [] })).process ≡ (line_at lines e).process
   pub right : (j : ℕ) → j < n → (length (clock_at events (get_or order j 0)) ≡ processes) × IsRight processes lines events (get_or order j 0)
+
+-- a number in a clock is the same, however the clock is found
+pub part_in-event : (events : List Clocked) (event : Option ℕ) (p : ℕ) → part_in (clock_of_event events event) p ≡ part_of events event p
+part_in-event events None p = get_or_past [] (p - 1) 0 (omega arith)
+part_in-event events (Some e) p = refl
+
+join_at-link : (process : ℕ) (link : Link) (events : List Clocked) (p : ℕ) →
+    join_at process link.number (clock_of_event events link.prior) (clock_of_event events link.source) p ≡ joined_at process link events p
+join_at-link process link events p =
+    ap (λ n. let most = max n (part_in (clock_of_event events link.source) p) in cond (eqb p process) (max most link.number) most)
+    (part_in-event events link.prior p)
+    ∙ ap (λ n. let most = max (part_of events link.prior p) n in cond (eqb p process) (max most link.number) most)
+    (part_in-event events link.source p)
+
+-- the same of clocks that were found
+pub join_at-found : (process : ℕ) (link : Link) (events : List Clocked) (prior source : List ℕ) (p number : ℕ) →
+    prior ≡ clock_of_event events link.prior → source ≡ clock_of_event events link.source →
+    number ≡ join_at process link.number prior source p → number ≡ joined_at process link events p
+join_at-found process link events prior source p number one other is =
+    is ∙ ap (λ c. join_at process link.number c source p) one
+    ∙ ap (λ c. join_at process link.number (clock_of_event events link.prior) c p) other ∙ join_at-link process link events p

@@ -26,7 +26,8 @@ pub record CameWith (event : ℕ) (pair : ℕ × ℕ) : Type 0 where
 pub record CameUpTo (many : ℕ) (pair : ℕ × ℕ) : Type 0 where
   pub is : below_of pair ≤ many
 
-own_with : (lines : List LogLine) (i : ℕ) → i ≤ length lines → (prior : Option ℕ) → prior_of lines i ≡ prior → IfThere (CameWith (i + 1)) (own_pair i prior)
+own_with : (lines : List LogLine) (i : ℕ) → i ≤ length lines → (prior : Option ℕ) → prior_of lines i ≡ prior →
+    IfThere (CameWith (i + 1)) (own_pair i prior)
 own_with lines i within None is = tt
 own_with lines i within (Some f) is =
     let some = latest_some lines i (line_at lines i).process f within is in
@@ -58,37 +59,48 @@ message_with lines i Bad = tt
 -- the pairs of an event came with it
 pub event_with : (lines : List LogLine) (i : ℕ) → i ≤ length lines → All (CameWith (i + 1)) (event_pairs lines i)
 event_with lines i within =
-    All-both (CameWith (i + 1)) (own_pair i (prior_of lines i)) (message_pair lines i (line_at lines i).act) (own_with lines i within (prior_of lines i) refl) (message_with lines i (line_at lines i).act)
+    All-both (CameWith (i + 1)) (own_pair i (prior_of lines i)) (message_pair lines i (line_at lines i).act)
+    (own_with lines i within (prior_of lines i) refl) (message_with lines i (line_at lines i).act)
 
 -- one or two pairs of an event are in one batch
-batch_of_both : (event : ℕ) (own other : Option (ℕ × ℕ)) → All (CameWith event) (one_or_both own other) → batches_over (one_or_both own other) ≡ batches_of (one_or_both own other)
+batch_of_both : (event : ℕ) (own other : Option (ℕ × ℕ)) → All (CameWith event) (one_or_both own other) →
+    batches_over (one_or_both own other) ≡ batches_of (one_or_both own other)
 batch_of_both event None None each = refl
 batch_of_both event None (Some other) each = refl
 batch_of_both event (Some pair) None each = refl
 batch_of_both event (Some pair) (Some other) each = by_test (is_pair pair other) each
   where
-    by_test : (b : Bool) → All (CameWith event) (cond b (pair ∷ []) (pair ∷ other ∷ [])) → batches_over (cond b (pair ∷ []) (pair ∷ other ∷ [])) ≡ batches_of (cond b (pair ∷ []) (pair ∷ other ∷ []))
+    by_test : (b : Bool) → All (CameWith event) (cond b (pair ∷ []) (pair ∷ other ∷ [])) →
+        batches_over (cond b (pair ∷ []) (pair ∷ other ∷ [])) ≡ batches_of (cond b (pair ∷ []) (pair ∷ other ∷ []))
     by_test true each = refl
     by_test false each =
         let one = All-head (CameWith event) pair (other ∷ []) each in
         let two = All-head (CameWith event) other [] (All-tail (CameWith event) pair (other ∷ []) each) in
         let same : below_of other ≡ below_of pair = two.is ∙ sym one.is in
-        ap (λ b. cond b (Assign (must_of pair ∷ must_of other ∷ []) ∷ []) (Assign (must_of pair ∷ []) ∷ Assign (must_of other ∷ []) ∷ [])) (eq-eqb (below_of other) (below_of pair) same)
+        ap (λ b. cond b (Assign (must_of pair ∷ must_of other ∷ []) ∷ [])
+        (Assign (must_of pair ∷ []) ∷ Assign (must_of other ∷ []) ∷ [])) (eq-eqb (below_of other) (below_of pair) same)
 
 -- pairs of earlier events and of a later one are in batches of their own
-batches_apart : (many : ℕ) (xs ys : List (ℕ × ℕ)) → All (CameUpTo many) xs → All (CameWith (many + 1)) ys → batches_over (xs ++ ys) ≡ batches_over xs ++ batches_over ys
+batches_apart : (many : ℕ) (xs ys : List (ℕ × ℕ)) → All (CameUpTo many) xs → All (CameWith (many + 1)) ys →
+    batches_over (xs ++ ys) ≡ batches_over xs ++ batches_over ys
 batches_apart many [] ys each each' = refl
 batches_apart many (pair ∷ []) [] each each' = refl
 batches_apart many (pair ∷ []) (other ∷ more) each each' =
     let one = (All-head (CameUpTo many) pair [] each).is in
     let two = (All-head (CameWith (many + 1)) other more each').is in
-    let apart = false_from_ne_true (eqb (below_of other) (below_of pair)) (λ t. let same : below_of other ≡ below_of pair = eqb-true (below_of other) (below_of pair) t in let no : suc many ≤ many = omega arith in omega arith) in
-    ap (λ b. cond b (Assign (must_of pair ∷ must_of other ∷ []) ∷ batches_over more) (Assign (must_of pair ∷ []) ∷ batches_over (other ∷ more))) apart
+    let apart = false_from_ne_true (eqb (below_of other) (below_of pair))
+    (λ t. let same : below_of other ≡ below_of pair = eqb-true (below_of other) (below_of pair) t in omega arith) in
+    ap (λ b. cond b (Assign (must_of pair ∷ must_of other ∷ []) ∷ batches_over more)
+    (Assign (must_of pair ∷ []) ∷ batches_over (other ∷ more))) apart
 batches_apart many (pair ∷ other ∷ xs) ys each each' =
     let tail = All-tail (CameUpTo many) pair (other ∷ xs) each in
     let both = batches_apart many xs ys (All-tail (CameUpTo many) other xs tail) each' in
     let one = batches_apart many (other ∷ xs) ys tail each' in
-    elim (eqb (below_of other) (below_of pair)) as (λ b. cond b (Assign (must_of pair ∷ must_of other ∷ []) ∷ batches_over (xs ++ ys)) (Assign (must_of pair ∷ []) ∷ batches_over ((other ∷ xs) ++ ys)) ≡ cond b (Assign (must_of pair ∷ must_of other ∷ []) ∷ batches_over xs) (Assign (must_of pair ∷ []) ∷ batches_over (other ∷ xs)) ++ batches_over ys) [
+    elim (eqb (below_of other) (below_of pair)) as
+    (λ b. cond b (Assign (must_of pair ∷ must_of other ∷ []) ∷ batches_over (xs ++ ys))
+    (Assign (must_of pair ∷ []) ∷ batches_over ((other ∷ xs) ++ ys)) ≡ cond b
+    (Assign (must_of pair ∷ must_of other ∷ []) ∷ batches_over xs)
+    (Assign (must_of pair ∷ []) ∷ batches_over (other ∷ xs)) ++ batches_over ys) [
       | true ↦ ap (λ l. Assign (must_of pair ∷ must_of other ∷ []) ∷ l) both
       | false ↦ ap (λ l. Assign (must_of pair ∷ []) ∷ l) one
     ]
@@ -96,7 +108,11 @@ batches_apart many (pair ∷ other ∷ xs) ys each each' =
 up_to : (lines : List LogLine) (many : ℕ) → many ≤ length lines → All (CameUpTo many) (pairs_to lines many)
 up_to lines zero le = All-nil (CameUpTo zero)
 up_to lines (suc n) le =
-    All-append (CameUpTo (suc n)) (pairs_to lines n) (event_pairs lines n) (All-weaker (CameUpTo n) (CameUpTo (suc n)) (λ pair came. let is = came.is in record { is = omega arith }) (pairs_to lines n) (up_to lines n (omega arith))) (All-weaker (CameWith (n + 1)) (CameUpTo (suc n)) (λ pair came. let is = came.is in record { is = omega arith }) (event_pairs lines n) (event_with lines n (omega arith)))
+    All-append (CameUpTo (suc n)) (pairs_to lines n) (event_pairs lines n)
+    (All-weaker (CameUpTo n) (CameUpTo (suc n)) (λ pair came. let is = came.is in record { is = omega arith }) (pairs_to lines n)
+    (up_to lines n (omega arith)))
+    (All-weaker (CameWith (n + 1)) (CameUpTo (suc n)) (λ pair came. let is = came.is in record { is = omega arith })
+    (event_pairs lines n) (event_with lines n (omega arith)))
 
 -- the batches of the first events, so many
 pub batches_are : (lines : List LogLine) (many : ℕ) → many ≤ length lines → batches_over (pairs_to lines many) ≡ batches_to lines many
@@ -105,14 +121,18 @@ batches_are lines (suc n) le =
     let with = event_with lines n (omega arith) in
     let own = own_pair n (prior_of lines n) in
     let other = message_pair lines n (line_at lines n).act in
-    batches_apart n (pairs_to lines n) (event_pairs lines n) (up_to lines n (omega arith)) with ∙ ap (λ l. l ++ batches_over (event_pairs lines n)) (batches_are lines n (omega arith)) ∙ ap (λ l. batches_to lines n ++ l) (batch_of_both (n + 1) own other with)
+    batches_apart n (pairs_to lines n) (event_pairs lines n) (up_to lines n (omega arith)) with
+    ∙ ap (λ l. l ++ batches_over (event_pairs lines n)) (batches_are lines n (omega arith))
+    ∙ ap (λ l. batches_to lines n ++ l) (batch_of_both (n + 1) own other with)
 
 pub events_many : (lines : List LogLine) (imported : Imported) → TellsOf lines imported → length imported.events ≡ length lines
 events_many lines imported tells =
     ap length tells.events ∙ length-map-range_with_len (clocked_of imported.processes lines) 0 (length lines)
 
 -- the commands that are made of what is told of a log are the log's
-pub told_commands : (imported : Imported) (commands : List Command) → commands ≡ replicate (length imported.events) Create ++ batches_over (numbered imported.pairs) → (lines : List LogLine) → TellsOf lines imported → commands ≡ commands_of lines
+pub told_commands : (imported : Imported) (commands : List Command) →
+    commands ≡ replicate (length imported.events) Create ++ batches_over (numbered imported.pairs) → (lines : List LogLine) →
+    TellsOf lines imported → commands ≡ commands_of lines
 told_commands imported commands are lines tells =
     are
     ∙ ap (λ n. replicate n Create ++ batches_over (numbered imported.pairs)) (events_many lines imported tells)

@@ -56,9 +56,13 @@ one_pairs (pair ∷ more) (pair' ∷ more') same =
 pub one_text : TheTextIsOne
 one_text bytes text text' one other =
     let same = one_log bytes one.imported.processes one.is.lines other.imported.processes other.is.lines one.is.parses other.is.parses in
-    let events : one.imported.events ≡ other.imported.events = one.is.tells.events ∙ ap (λ n. clocks_of_log n one.is.lines) same.0 ∙ ap (clocks_of_log other.imported.processes) same.1 ∙ sym other.is.tells.events in
-    let pairs : one.imported.pairs ≡ other.imported.pairs = one_pairs one.imported.pairs other.imported.pairs (one.is.tells.pairs ∙ ap (λ ls. pairs_to ls (length ls)) same.1 ∙ sym other.is.tells.pairs) in
+    let events : one.imported.events ≡ other.imported.events = one.is.tells.events ∙ ap (λ n. clocks_of_log n one.is.lines) same.0
+    ∙ ap (clocks_of_log other.imported.processes) same.1 ∙ sym other.is.tells.events in
+    let pairs : one.imported.pairs ≡ other.imported.pairs = one_pairs one.imported.pairs other.imported.pairs
+    (one.is.tells.pairs ∙ ap (λ ls. pairs_to ls (length ls)) same.1 ∙ sym other.is.tells.pairs) in
     one.text_is
-    ∙ ap (λ (e : List Clocked). event_lines 1 e ++ line (codes "pairs " ++ decimal (length one.imported.pairs)) ++ flat_map pair_line one.imported.pairs ++ line (codes "end")) events
-    ∙ ap (λ (p : List (EventId × EventId)). event_lines 1 other.imported.events ++ line (codes "pairs " ++ decimal (length p)) ++ flat_map pair_line p ++ line (codes "end")) pairs
+    ∙ ap (λ (e : List Clocked). event_lines 1 e ++ line (codes "pairs " ++ decimal (length one.imported.pairs)) ++ flat_map pair_line
+    one.imported.pairs ++ line (codes "end")) events
+    ∙ ap (λ (p : List (EventId × EventId)). event_lines 1 other.imported.events ++ line
+    (codes "pairs " ++ decimal (length p)) ++ flat_map pair_line p ++ line (codes "end")) pairs
     ∙ sym other.text_is

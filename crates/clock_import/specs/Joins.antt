@@ -21,3 +21,14 @@ abbrev pub joined_at : ℕ → Link → List Clocked → ℕ → ℕ
 joined_at process link events p =
     let most = max (part_of events link.prior p) (part_of events link.source p) in
     if p == process then max most link.number else most
+
+-- the clock of an event; none where there is no event
+abbrev pub clock_of_event : List Clocked → Option ℕ → List ℕ
+clock_of_event events None = []
+clock_of_event events (Some e) = clock_at events e
+
+-- the number of the process p in the clock of an event of the process with this number among its events, where these are
+-- the clocks of the events that lead to it
+abbrev pub join_at : ℕ → ℕ → List ℕ → List ℕ → ℕ → ℕ
+join_at process number prior source p =
+    let most = max (part_in prior p) (part_in source p) in if p == process then max most number else most

@@ -6,7 +6,7 @@ ghost use Rattle.clock_import.specs.Log.{IsLog};
 ghost use Rattle.clock_import.specs.Links.{AreLinks};
 ghost use Rattle.clock_import.specs.Walk.{IsOrder};
 ghost use Rattle.clock_import.specs.Clocks.{clocks_of_log};
-ghost use Rattle.clock_import.specs.Joins.{joined_at, part_of};
+ghost use Rattle.clock_import.specs.Joins.{joined_at, join_at, clock_of_event, part_in, part_of};
 
 use crate::links::Link;
 use crate::log::LogLine;
@@ -64,22 +64,44 @@ fn joined(
     ensures { IfOk result (λ clock. clock
         ≡ map (joined_at process link.now events.now) (range_with_len 1 processes)) }
 {
-    let mut clock = Clock::new(alloc);
+    let prior = clock_of_event(events, link.prior);
+    let source = clock_of_event(events, link.source);
+    let mut clock = Vec::with_capacity(alloc, processes as usize)?;
     for i in 0..processes {
-        clock.push(joined_at(process, link, events, i + 1))?;
+        clock.push(join_at(process, link.number, prior, source, i + 1))?;
     }
-    Ok(clock)
+    Ok(Clock::from_vec(clock))
 }
 
-// Its number for the process p.
-fn joined_at(process: u32, link: &Link, events: &[Clocked], p: u32) -> u64
-    ensures { result ≡ joined_at process link.now events.now p }
+// The clock of the event; none where there is no event.
+fn clock_of_event(events: &[Clocked], event: Option<usize>) -> &[u64]
+    ensures { result.now ≡ clock_of_event events.now event }
 {
-    let most = part_of(events, link.prior, p).max(part_of(events, link.source, p));
-    if p == process {
-        most.max(link.number)
-    } else {
-        most
+    match event {
+        Some(e) => match events.get(e) {
+            Some(clocked) => clocked.clock.as_slice(),
+            None => &[],
+        },
+        None => &[],
+    }
+}
+
+// The number for the process p in the clock of an event of the process with this number among its events, where these
+// are the clocks of the events that lead to it.
+fn join_at(process: u32, number: u64, prior: &[u64], source: &[u64], p: u32) -> u64
+    ensures { result ≡ join_at process number prior.now source.now p }
+{
+    let most = part_in(prior, p).max(part_in(source, p));
+    if p == process { most.max(number) } else { most }
+}
+
+// The number of the process in the clock.
+fn part_in(clock: &[u64], process: u32) -> u64
+    ensures { result ≡ part_in clock.now process }
+{
+    match clock.get((process as usize).saturating_sub(1)) {
+        Some(part) => *part,
+        None => 0,
     }
 }
 
@@ -87,18 +109,5 @@ fn joined_at(process: u32, link: &Link, events: &[Clocked], p: u32) -> u64
 pub(crate) fn part_of(events: &[Clocked], event: Option<usize>, process: u32) -> u64
     ensures { result ≡ part_of events.now event process }
 {
-    match event {
-        Some(e) => match events.get(e) {
-            Some(clocked) => match clocked
-                .clock
-                .as_slice()
-                .get((process as usize).saturating_sub(1))
-            {
-                Some(part) => *part,
-                None => 0,
-            },
-            None => 0,
-        },
-        None => 0,
-    }
+    part_in(clock_of_event(events, event), process)
 }

@@ -69,7 +69,7 @@ fn put_parts(out: &mut Vec<u8>, parts: &[u64]) -> Result<(), NoMemory>
     ensures { OnOk result (out.new.items ≡ out.old.items ++ flat_map (λ part. codes "," ++ decimal part) parts.now) }
 {
     for part in parts {
-        put_text(out, b",")?;
+        out.push(b',')?;
         put_number(out, *part)?;
     }
     Ok(())
