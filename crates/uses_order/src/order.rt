@@ -32,9 +32,7 @@ pub fn must_be_before(alloc: Global, first: u64, second: u64) -> Result<Command,
 
 /// Client 1's command with this number, from 1, as an entry of the history.
 pub fn entry(seq: u64, command: Command) -> Entry
-    ensures client { result.client.0 ≡ 1 }
-    ensures seq { result.seq ≡ seq }
-    ensures command { result.command ≡ command }
+    ensures { result ≡ record { client = record { 0 = 1 }; seq = seq; command = command } }
 {
     Entry {
         client: ClientId(1),
