@@ -53,7 +53,7 @@ fn complaint(exit: Exit) -> Option<&'static str>
         Exit::ReadFault => Some("the input could not be read"),
         Exit::WriteFault => Some("the output could not be written"),
         Exit::NoMemory => Some("out of memory"),
-        Exit::Done | Exit::Usage | Exit::BadLine(_) => None,
+        Exit::Done | Exit::Usage | Exit::BadLine(_) | Exit::Cyclic { .. } => None,
     }
 }
 

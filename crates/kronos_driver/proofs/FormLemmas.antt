@@ -10,11 +10,14 @@ pub no_rounds : (word number : List ℕ) → number ≡ decimal 0 → IsForm (wo
 no_rounds word number zero_is form =
     elim form [
       | inl script ↦ let e : word ∷ number ∷ [] ≡ codes "script" ∷ [] = script in cc
-      | inr load ↦
-          let e : word ∷ number ∷ [] ≡ codes "load" ∷ decimal load.0 ∷ [] = load.1.words_are in
-          let same : decimal 0 ≡ decimal load.0 = cc in
-          let low = load.1.size.low in
-          let high = load.1.size.high in
-          let none : 0 ≡ load.0 = decimal_injective 0 load.0 (omega arith) (omega arith) same in
-          absurd (omega arith)
+      | inr more ↦ elim more [
+        | inr log ↦ let e : word ∷ number ∷ [] ≡ codes "import" ∷ [] = log in cc
+        | inl load ↦
+            let e : word ∷ number ∷ [] ≡ codes "load" ∷ decimal load.0 ∷ [] = load.1.words_are in
+            let same : decimal 0 ≡ decimal load.0 = cc in
+            let low = load.1.size.low in
+            let high = load.1.size.high in
+            let none : 0 ≡ load.0 = decimal_injective 0 load.0 (omega arith) (omega arith) same in
+            absurd (omega arith)
+      ]
     ]

@@ -1,2 +1,3 @@
 mod EndsLemmas
 mod FormLemmas
+mod ImportLemmas

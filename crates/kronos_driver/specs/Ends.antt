@@ -10,9 +10,13 @@ use Rattle.script_lang.specs.Line.{line}
 use Rattle.script_lang.specs.Number.{IsFromOneTo}
 use Rattle.script_lang.specs.Script.{Parses}
 use Rattle.load_gen.specs.Summary.{load_text}
+use Rattle.clock_import.specs.Reading.{IsBadLine as IsBadLogLine}
+use Rattle.clock_import.specs.Imported.{IsCyclicAt}
+use Rattle.clock_import.specs.Text.{IsTextOf}
 use Rattle.kronos_runs.specs.declared.exit.Exit.{Exit}
-use Rattle.kronos_runs.specs.declared.exit.Exit.TheVariants.{Done, Usage, BadLine, TooLong, ReadFault, WriteFault, NoMemory}
+use Rattle.kronos_runs.specs.declared.exit.Exit.TheVariants.{Done, Usage, BadLine, TooLong, ReadFault, WriteFault, NoMemory, Cyclic}
 use Rattle.kronos_runs.specs.Due.{IsRunOf, IsRefusalOf, IsDueFor, TookFront}
+use Rattle.kronos_runs.specs.Logs.{IsBadLogOf, IsCycleOf, IsDueForLog}
 
 -- what is seen outside at a moment: the bytes that the source has left and that the sink holds, where they tell them,
 -- and how many faults each has counted
@@ -31,9 +35,17 @@ pub record AskForLoad (rounds : ℕ) (words : List (List ℕ)) : Type 0 where
   pub size : IsFromOneTo 2000 rounds
   pub words_are : words ≡ codes "load" ∷ decimal rounds ∷ []
 
+-- the words ask for the import of a log
+abbrev pub AskForImport : List (List ℕ) → Type 0
+AskForImport words = words ≡ codes "import" ∷ []
+
+-- the words ask for a run of what is read
+abbrev pub AskToRead : List (List ℕ) → Type 0
+AskToRead words = AskForScript words ⊎ AskForImport words
+
 -- the words ask for a run
 abbrev pub IsForm : List (List ℕ) → Type 0
-IsForm words = AskForScript words ⊎ ((rounds : ℕ) × AskForLoad rounds words)
+IsForm words = AskForScript words ⊎ (((rounds : ℕ) × AskForLoad rounds words) ⊎ AskForImport words)
 
 abbrev pub input_limit : ℕ
 input_limit = 1048576
@@ -84,14 +96,14 @@ pub record HasBadLine (n : ℕ) (words : List (List ℕ)) (before after : Outsid
 
 -- TooLong: the source gave a byte past the limit, and nothing was written.
 pub record IsTooLong (words : List (List ℕ)) (before after : Outside) : Type 0 where
-  pub form : AskForScript words
+  pub form : AskToRead words
   pub over : GaveTooMany input_limit before.left after.left
   pub unwritten : Keeps before.held after.held
   pub calm : IsFaultless before after
 
 -- ReadFault: the source counted a fault, and nothing was written.
 pub record FailedToRead (words : List (List ℕ)) (before after : Outside) : Type 0 where
-  pub form : AskForScript words
+  pub form : AskToRead words
   pub given : GaveSome input_limit before.left after.left
   pub rose : Rose before.reads after.reads
   pub unwritten : Keeps before.held after.held
@@ -145,15 +157,74 @@ pub record LacksMemoryForLoad (words : List (List ℕ)) (before after : Outside)
   pub unwritten : Keeps before.held after.held
   pub calm : after.writes ≡ before.writes
 
+-- the words ask for the import of a log, and these bytes are the whole input
+pub record HasReadLog (words : List (List ℕ)) (before after : Outside) (bytes : List ℕ) : Type 0 where
+  pub form : AskForImport words
+  pub whole : GaveAll input_limit before.left after.left bytes
+  pub calm : after.reads ≡ before.reads
+
+-- Done of an import: the whole input was read and is a log without a cycle, and the text of its import was written.
+pub record HasImported (words : List (List ℕ)) (before after : Outside) : Type 0 where
+  pub bytes : List ℕ
+  pub text : List ℕ
+  pub read : HasReadLog words before after bytes
+  pub told : IsTextOf bytes text
+  pub written : Appends before.held after.held text
+  pub calm : after.writes ≡ before.writes
+
+-- BadLine of an import: the whole input was read, line n is the first that is in no log, and a line that says so was
+-- written.
+pub record HasBadLogLine (n : ℕ) (words : List (List ℕ)) (before after : Outside) : Type 0 where
+  pub bytes : List ℕ
+  pub text : List ℕ
+  pub read : HasReadLog words before after bytes
+  pub refused : IsBadLogOf bytes n text
+  pub written : Appends before.held after.held text
+  pub calm : after.writes ≡ before.writes
+
+-- Cyclic: the whole input was read and is a log, line n is the first whose pairs close a cycle with those above it, and a
+-- line that says so was written.
+pub record HasCycle (n : ℕ) (words : List (List ℕ)) (before after : Outside) : Type 0 where
+  pub bytes : List ℕ
+  pub text : List ℕ
+  pub read : HasReadLog words before after bytes
+  pub closes : IsCycleOf bytes n text
+  pub written : Appends before.held after.held text
+  pub calm : after.writes ≡ before.writes
+
+-- the text of an import that was due after what was read
+pub record HadToWriteLog (words : List (List ℕ)) (before after : Outside) (text : List ℕ) : Type 0 where
+  pub bytes : List ℕ
+  pub read : HasReadLog words before after bytes
+  pub due : IsDueForLog bytes text
+
+-- WriteFault of an import: the sink counted a fault, and took a front of the text that was due, and not all of it.
+pub record FailedToWriteLog (words : List (List ℕ)) (before after : Outside) : Type 0 where
+  pub text : List ℕ
+  pub due : HadToWriteLog words before after text
+  pub took : TookBeforeFault text before.held after.held before.writes after.writes
+
+-- NoMemory of an import: no read and no write failed. Nothing was written, or the whole input was read and a front of the
+-- text that was due was written, and not all of it.
+pub record LacksMemoryForLog (words : List (List ℕ)) (before after : Outside) : Type 0 where
+  pub form : AskForImport words
+  pub given : GaveSome input_limit before.left after.left
+  pub calm : IsFaultless before after
+  pub written : Keeps before.held after.held
+      ⊎ ((text : List ℕ) × HadToWriteLog words before after text × TookFront text before.held after.held)
+
 -- what the end of the program says of its words, and of what was seen outside before and afterwards
 abbrev pub Ends : Exit → List (List ℕ) → Outside → Outside → Type 0
-Ends Done words before after = HasRun words before after ⊎ HasLoaded words before after
+Ends Done words before after = HasRun words before after ⊎ (HasLoaded words before after ⊎ HasImported words before after)
 Ends Usage words before after = HasUsage words before after
-Ends (BadLine n) words before after = HasBadLine n words before after
+Ends (BadLine n) words before after = HasBadLine n words before after ⊎ HasBadLogLine n words before after
 Ends TooLong words before after = IsTooLong words before after
 Ends ReadFault words before after = FailedToRead words before after
-Ends WriteFault words before after = FailedToWrite words before after ⊎ FailedToWriteLoad words before after
-Ends NoMemory words before after = LacksMemory words before after ⊎ LacksMemoryForLoad words before after
+Ends WriteFault words before after =
+    FailedToWrite words before after ⊎ (FailedToWriteLoad words before after ⊎ FailedToWriteLog words before after)
+Ends NoMemory words before after =
+    LacksMemory words before after ⊎ (LacksMemoryForLoad words before after ⊎ LacksMemoryForLog words before after)
+Ends (Cyclic n) words before after = HasCycle n words before after
 
 -- the words ask for the run of a script, the input is one within the limit, and neither source nor sink counts a fault
 pub record IsServed (words : List (List ℕ)) (before after : Outside) : Type 0 where
@@ -171,3 +242,25 @@ pub record IsLoadServed (words : List (List ℕ)) (before after : Outside) : Typ
   pub rounds : ℕ
   pub form : AskForLoad rounds words
   pub written : Rose before.writes after.writes → ⊥
+
+-- the words ask for an import, the input is within the limit, and neither source nor sink counts a fault
+pub record IsImportServed (words : List (List ℕ)) (before after : Outside) : Type 0 where
+  pub form : AskForImport words
+  pub bytes : List ℕ
+  pub told : before.left ≡ Some bytes
+  pub fits : length bytes ≤ input_limit
+  pub read : Rose before.reads after.reads → ⊥
+  pub written : Rose before.writes after.writes → ⊥
+
+-- how the import of these bytes ends: the text is that of a log without a cycle, a line is the first bad one, or it is the
+-- first that closes a cycle
+abbrev pub IsImportEnd : List ℕ → Exit → Type 0
+IsImportEnd bytes Done = (text : List ℕ) × IsTextOf bytes text
+IsImportEnd bytes (BadLine n) = IsBadLogLine bytes n
+IsImportEnd bytes (Cyclic n) = IsCyclicAt bytes n
+IsImportEnd bytes other = ⊥
+
+-- an import that is served ends so, or finds no memory
+abbrev pub EndsAsImport : Exit → List (List ℕ) → Outside → Outside → Type 0
+EndsAsImport exit words before after =
+    (served : IsImportServed words before after) (due : Exit) → IsImportEnd served.bytes due → (exit ≡ due) ⊎ (exit ≡ NoMemory)

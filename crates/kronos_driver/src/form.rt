@@ -15,6 +15,8 @@ pub enum Form {
     Script,
     /// `load N`: the run of the load of so many rounds, 1 to 2,000.
     Load(u32),
+    /// `import`: the import of the log that is read.
+    Import,
 }
 
 // A load has so many rounds at the most.
@@ -26,19 +28,21 @@ pub fn form_of(words: &[RcStr]) -> Option<Form>
     ensures none { IfNone result (IsForm (map rc_str_bytes words.now) → ⊥) }
 {
     match words {
-        [word] => script_form(word),
+        [word] => word_form(word),
         [word, number] => load_form(word, number),
         _ => None,
     }
 }
 
 // What the one word asks for.
-fn script_form(word: &RcStr) -> Option<Form>
+fn word_form(word: &RcStr) -> Option<Form>
     ensures some { IfSome result (λ form. AskFor form (rc_str_bytes word.now ∷ [])) }
     ensures none { IfNone result (IsForm (rc_str_bytes word.now ∷ []) → ⊥) }
 {
     if word.as_str() == "script" {
         Some(Form::Script)
+    } else if word.as_str() == "import" {
+        Some(Form::Import)
     } else {
         None
     }

@@ -2,11 +2,11 @@
 
 ghost use Rattle.std.specs.Prelude.{◌≡◌, ◌⊎◌, ℕ, List, map};
 ghost use Rattle.std.specs.Rc.{rc_str_bytes};
-ghost use Rattle.kronos_driver.specs.Ends.{Ends, AskForScript, IsServed, IsLoadServed};
+ghost use Rattle.kronos_driver.specs.Ends.{Ends, AskForScript, AskForImport, IsServed, IsLoadServed, EndsAsImport};
 
 use crate::form::{Form, form_of};
 use kr_text::{ReadStop, Sink, Source, WriteStop, read_all, write_all};
-use kronos_runs::{Exit, run_load, run_script};
+use kronos_runs::{Exit, run_import, run_load, run_script};
 use std::alloc::Global;
 use std::rc::RcStr;
 use std::thread::Threads;
@@ -18,7 +18,8 @@ const INPUT_LIMIT: usize = 1_048_576;
 const USAGE: &[u8] = b"usage: kronos script, load N, live, audit, import, chain\n";
 
 /// Runs the program: with the word `script` it reads the whole source as a script, of at most 1,048,576 bytes,
-/// runs it step by step, and writes its transcript; with the words `load N` it reads nothing, runs the load of N
+/// runs it step by step, and writes its transcript; with the word `import` it reads the source as a log of processes, and
+/// writes its events with their clocks, and its pairs, or the first line that closes a cycle; with the words `load N` it reads nothing, runs the load of N
 /// rounds, 1 to 2,000, and writes its summary. Any other words are no form. The answer is the first refusal that is
 /// met, in the order words, input, lines, run.
 pub fn kronos_script<R: Threads + Sync, S: Source, K: Sink>(
@@ -39,9 +40,16 @@ pub fn kronos_script<R: Threads + Sync, S: Source, K: Sink>(
         (record { left = S.left source.old; reads = S.faults source.old; held = K.held sink.old; writes = K.faults sink.old })
         (record { left = S.left source.new; reads = S.faults source.new; held = K.held sink.new; writes = K.faults sink.new })
         → (result ≡ Exit.Done) ⊎ (result ≡ Exit.NoMemory) }
+    ensures complete_import { EndsAsImport result (map rc_str_bytes words.now)
+        (record { left = S.left source.old; reads = S.faults source.old; held = K.held sink.old; writes = K.faults sink.old })
+        (record { left = S.left source.new; reads = S.faults source.new; held = K.held sink.new; writes = K.faults sink.new }) }
 {
-    // a proof step: the law does nothing when it runs
+    // proof steps: the laws do nothing when they run
     script_lang::laws::bad_lines_are_in_no_script();
+    clock_import::laws::bad_lines_are_in_no_log();
+    clock_import::laws::the_bad_line_is_one();
+    clock_import::laws::the_cyclic_line_is_one();
+    clock_import::laws::cycles_are_in_no_import();
     run_words(rt, alloc, words, source, sink)
 }
 
@@ -60,6 +68,7 @@ fn run_words<R: Threads + Sync, S: Source, K: Sink>(
     match form_of(words) {
         Some(Form::Script) => run_input(rt, alloc, source, sink),
         Some(Form::Load(rounds)) => run_load(rt, alloc, rounds, sink),
+        Some(Form::Import) => import_input(alloc, source, sink),
         None => match write_all(sink, USAGE) {
             Ok(()) => Exit::Usage,
             Err(WriteStop::Fault) => Exit::WriteFault,
@@ -85,4 +94,19 @@ fn run_input<R: Threads + Sync, S: Source, K: Sink>(
         Err(ReadStop::NoMemory) => return Exit::NoMemory,
     };
     run_script(rt, alloc, bytes.as_slice(), sink)
+}
+
+// Reads the whole input and imports it.
+fn import_input<S: Source, K: Sink>(alloc: Global, source: &mut S, sink: &mut K) -> Exit
+    ensures { (words : List (List ℕ)) → AskForImport words → Ends result words
+        (record { left = S.left source.old; reads = S.faults source.old; held = K.held sink.old; writes = K.faults sink.old })
+        (record { left = S.left source.new; reads = S.faults source.new; held = K.held sink.new; writes = K.faults sink.new }) }
+{
+    let bytes = match read_all(alloc, source, INPUT_LIMIT) {
+        Ok(bytes) => bytes,
+        Err(ReadStop::Fault) => return Exit::ReadFault,
+        Err(ReadStop::TooLong) => return Exit::TooLong,
+        Err(ReadStop::NoMemory) => return Exit::NoMemory,
+    };
+    run_import(alloc, bytes.as_slice(), sink)
 }

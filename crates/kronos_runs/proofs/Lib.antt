@@ -1,3 +1,4 @@
 mod RunLemmas
 mod LoadLemmas
 mod ScriptLemmas
+mod LogLemmas

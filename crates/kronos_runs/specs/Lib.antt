@@ -3,3 +3,4 @@ pub mod Due
 pub mod EndsOn
 pub mod Runs
 pub mod Loads
+pub mod Logs

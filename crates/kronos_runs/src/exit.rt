@@ -23,6 +23,9 @@ pub enum Exit {
     WriteFault,
     /// There was no memory.
     NoMemory,
+    /// The input is a log, the line of this number, from 1, is the first whose pairs close a cycle with those of the lines
+    /// above it, and a line that says so was written.
+    Cyclic { line: u64 },
 }
 
 impl Exit {
@@ -38,6 +41,7 @@ impl Exit {
             Exit::ReadFault => 5,
             Exit::WriteFault => 6,
             Exit::NoMemory => 7,
+            Exit::Cyclic { .. } => 10,
         }
     }
 }

@@ -156,8 +156,8 @@ fn write_history<K: Sink>(cluster: &Cluster, sink: &mut K) -> Result<(), RunErro
     }
 }
 
-// Writes the text.
-fn write<K: Sink>(sink: &mut K, text: &[u8]) -> Result<(), RunError>
+/// Writes the text.
+pub fn write<K: Sink>(sink: &mut K, text: &[u8]) -> Result<(), RunError>
     ensures { IsWritten text.now result (K.held sink.old) (K.held sink.new) (K.faults sink.old) (K.faults sink.new) }
 {
     match write_all(sink, text) {

@@ -36,8 +36,8 @@ pub fn run_script<R: Threads + Sync, K: Sink>(
     exit_of(run(rt, alloc, &script, sink), Exit::Done)
 }
 
-// The exit of a call that writes.
-fn exit_of(written: Result<(), RunError>, exit: Exit) -> Exit
+/// The exit of a call that writes.
+pub fn exit_of(written: Result<(), RunError>, exit: Exit) -> Exit
     ensures { result ≡ exit_after written exit }
 {
     match written {
@@ -47,8 +47,8 @@ fn exit_of(written: Result<(), RunError>, exit: Exit) -> Exit
     }
 }
 
-// Writes which line is bad.
-fn say_bad_line<K: Sink>(alloc: Global, sink: &mut K, n: u64) -> Result<(), RunError>
+/// Writes which line is bad.
+pub fn say_bad_line<K: Sink>(alloc: Global, sink: &mut K, n: u64) -> Result<(), RunError>
     ensures { IsWritten (bad_line n) result (K.held sink.old) (K.held sink.new) (K.faults sink.old) (K.faults sink.new) }
 {
     let line = format!(in alloc; "bad line {n}\n")?;
