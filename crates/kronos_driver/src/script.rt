@@ -18,10 +18,10 @@ const INPUT_LIMIT: usize = 1_048_576;
 const USAGE: &[u8] = b"usage: kronos script, load N, live, audit, import, chain\n";
 
 /// Runs the program: with the word `script` it reads the whole source as a script, of at most 1,048,576 bytes,
-/// runs it step by step, and writes its transcript; with the word `import` it reads the source as a log of processes, and
-/// writes its events with their clocks, and its pairs, or the first line that closes a cycle; with the words `load N` it reads nothing, runs the load of N
-/// rounds, 1 to 2,000, and writes its summary. Any other words are no form. The answer is the first refusal that is
-/// met, in the order words, input, lines, run.
+/// runs it step by step, and writes its transcript; with the word `import` it reads the source, no longer, as a log of
+/// processes, and writes its events with their clocks, and its pairs, or the first line that closes a cycle; with the
+/// words `load N` it reads nothing, runs the load of N rounds, 1 to 2,000, and writes its summary. Any other words are
+/// no form. The answer is the first refusal that is met, in the order words, input, lines, run.
 pub fn kronos_script<R: Threads + Sync, S: Source, K: Sink>(
     rt: &R,
     alloc: Global,

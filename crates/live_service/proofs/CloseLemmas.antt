@@ -24,7 +24,8 @@ pub record IsOff (id : ServiceId) (xs ys : List PassView) (x : PassView) : Type 
   pub others : All (IsOf id) ys
   pub own : x.service ≡ id
 
-pub last_off : (id : ServiceId) (xs ys : List PassView) (r : Option PassView) (x : PassView) → All (IsOf id) xs → xs ≡ ys ++ option_to_list r → r ≡ Some x → IsOff id xs ys x
+pub last_off : (id : ServiceId) (xs ys : List PassView) (r : Option PassView) (x : PassView) → All (IsOf id) xs
+    → xs ≡ ys ++ option_to_list r → r ≡ Some x → IsOff id xs ys x
 last_off id xs ys r x all is found =
     let both = All-pop (IsOf id) xs ys r is all in
     record {
@@ -34,7 +35,13 @@ last_off id xs ys r x all is found =
     }
 
 -- the last pass was taken off, and its seat joined into another
-pub joins_last : (turn : TurnView CopiesName) (seat seat' other : SeatView CopiesName) (xs ys : List PassView) (r : Option PassView) (x : PassView) (reader : ReaderView) → IsIdle turn.table seat → All (IsOf (record { table = turn.table; copies = turn.name })) xs → xs ≡ ys ++ option_to_list r → r ≡ Some x → IsSeatOf x other → reader.list ≡ x.known → named reader.copies ≡ x.service.copies → HasAtLeast x.client x.made x.known → seat' ≡ record seat { parts = seat.parts + other.parts; gives = seat.gives + other.gives; empties = seat.empties + other.empties; seen = seat'.seen } → JoinsLast turn seat seat' xs ys reader
+pub joins_last : (turn : TurnView CopiesName) (seat seat' other : SeatView CopiesName) (xs ys : List PassView) (r : Option PassView)
+    (x : PassView) (reader : ReaderView) → IsIdle turn.table seat → All (IsOf (record { table = turn.table; copies = turn.name })) xs
+    → xs ≡ ys ++ option_to_list r → r ≡ Some x → IsSeatOf x other → reader.list ≡ x.known → named reader.copies ≡ x.service.copies
+    → HasAtLeast x.client x.made x.known
+    → seat' ≡ record seat
+    { parts = seat.parts + other.parts; gives = seat.gives + other.gives; empties = seat.empties + other.empties; seen = seat'.seen }
+    → JoinsLast turn seat seat' xs ys reader
 joins_last turn seat seat' other xs ys r x reader idle all is found seated known copies commands joined =
     let id : ServiceId = record { table = turn.table; copies = turn.name } in
     let off = last_off id xs ys r x all is found in
@@ -60,7 +67,8 @@ pub same_copies : (one other : Book) (name : CopiesName) → named one ≡ name 
 same_copies one other name is is' = named-injective one other (is ∙ sym is')
 
 -- the history goes on from what all passes were told of, where it does from those and that
-pub kept_push : (history : List Entry) (xs ys : List PassView) (x : PassView) → xs ≡ ys ++ x ∷ [] → All (IsKept history) ys → IsPrefix x.known history → HasAtLeast x.client x.made x.known → All (IsKept history) xs
+pub kept_push : (history : List Entry) (xs ys : List PassView) (x : PassView) → xs ≡ ys ++ x ∷ [] → All (IsKept history) ys
+    → IsPrefix x.known history → HasAtLeast x.client x.made x.known → All (IsKept history) xs
 kept_push history xs ys x is others known own =
     let last : IsKept history x = record { known = known; own = at_least_longer x.client x.made x.known history known own } in
     subst (All (IsKept history)) (sym is) (All-push (IsKept history) ys x others last)

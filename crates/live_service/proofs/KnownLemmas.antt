@@ -21,7 +21,8 @@ whole_front xs ys front short =
     front.is ∙ ap (λ m. xs ++ m) none ∙ append-nil xs
 
 -- who knows one of two lists, and both begin it, knows the longer
-pub knows_longer : {X : Type 0} (old note new : List X) → (new ≡ old) ⊎ (new ≡ note) → IsPrefix note new → length old ≤ length note → new ≡ note
+pub knows_longer : {X : Type 0} (old note new : List X) → (new ≡ old) ⊎ (new ≡ note) → IsPrefix note new → length old ≤ length note
+    → new ≡ note
 knows_longer old note new (inl is) begins longer = whole_front note new begins (omega (arith, ap length is, longer))
 knows_longer old note new (inr is) begins longer = is
 
@@ -36,14 +37,19 @@ pub nothing_begins : {X : Type 0} (xs : List X) → IsPrefix [] xs
 nothing_begins xs = record { more = xs; is = refl }
 
 -- the journal of one entry more
-pub journal_grows : (journal : List DoneEntry) (history new : List Entry) (entry : Entry) (place : ℕ) (reply : Reply) → journal ≡ done_of history → new ≡ history ++ entry ∷ [] → place ≡ length new → reply ≡ reply_to history entry.command → (let done : DoneEntry = record { place = place; entry = entry; reply = reply } in journal ++ done ∷ [] ≡ done_of new)
+pub journal_grows : (journal : List DoneEntry) (history new : List Entry) (entry : Entry) (place : ℕ) (reply : Reply)
+    → journal ≡ done_of history → new ≡ history ++ entry ∷ [] → place ≡ length new → reply ≡ reply_to history entry.command
+    → (let done : DoneEntry = record { place = place; entry = entry; reply = reply } in journal ++ done ∷ [] ≡ done_of new)
 journal_grows journal history new entry place reply is grown at replied =
     let f : ℕ → Reply → DoneEntry = λ p r. record { place = p; entry = entry; reply = r } in
     let number : place ≡ length history + 1 = omega (arith, at, ap length grown, length_push history entry) in
-    ap (λ j. j ++ f place reply ∷ []) is ∙ ap (λ p. done_of history ++ f p reply ∷ []) number ∙ ap (λ r. done_of history ++ f (length history + 1) r ∷ []) replied ∙ sym (done_of-push history entry) ∙ ap done_of (sym grown)
+    ap (λ j. j ++ f place reply ∷ []) is ∙ ap (λ p. done_of history ++ f p reply ∷ []) number
+    ∙ ap (λ r. done_of history ++ f (length history + 1) r ∷ []) replied ∙ sym (done_of-push history entry) ∙ ap done_of (sym grown)
 
 -- what the entry is told
-pub placed_so : (history new : List Entry) (entry : Entry) (place : ℕ) (reply twin : Reply) → new ≡ history ++ entry ∷ [] → place ≡ length new → twin ≡ reply → reply ≡ reply_to history entry.command → (let placed : Placed = record { place = place; reply = twin } in placed ≡ placed_after history entry)
+pub placed_so : (history new : List Entry) (entry : Entry) (place : ℕ) (reply twin : Reply) → new ≡ history ++ entry ∷ []
+    → place ≡ length new → twin ≡ reply → reply ≡ reply_to history entry.command
+    → (let placed : Placed = record { place = place; reply = twin } in placed ≡ placed_after history entry)
 placed_so history new entry place reply twin grown at same replied =
     let f : ℕ → Reply → Placed = λ p r. record { place = p; reply = r } in
     ap (λ p. f p twin) (at ∙ ap length grown ∙ length_push history entry) ∙ ap (λ r. f (length history + 1) r) (same ∙ replied)

@@ -18,7 +18,8 @@ length-outcomes_from : (order : List (ℕ × ℕ)) (batch : List Pair) → lengt
 length-outcomes_from order [] = refl
 length-outcomes_from order (pair ∷ more) = omega (arith, length-outcomes_from (with_prefer order pair) more)
 
-batch_fits : (unknown contradicted : Option ℕ) (outcomes : List Outcome) (room : ℕ) → length outcomes ≤ room → HasRoom room (known_reply unknown (checked_reply contradicted outcomes))
+batch_fits : (unknown contradicted : Option ℕ) (outcomes : List Outcome) (room : ℕ) → length outcomes ≤ room
+    → HasRoom room (known_reply unknown (checked_reply contradicted outcomes))
 batch_fits (Some i) contradicted outcomes room fits = tt
 batch_fits None (Some i) outcomes room fits = tt
 batch_fits None None outcomes room fits = fits
@@ -31,12 +32,19 @@ count_fits before now room = by_test (nat_lt 0 before)
     by_test false = tt
 
 -- a reply has room where there is room for as many outcomes as the command has pairs
-pub reply_fits : (history : List Entry) (command : Command) (room : ℕ) (reply : Reply) → reply ≡ reply_to history command → outcomes_in command ≤ room → HasRoom room reply
+pub reply_fits : (history : List Entry) (command : Command) (room : ℕ) (reply : Reply) → reply ≡ reply_to history command
+    → outcomes_in command ≤ room → HasRoom room reply
 reply_fits history command room reply is fits = subst (HasRoom room) (sym is) (of_command command fits)
   where
     of_command : (command : Command) → outcomes_in command ≤ room → HasRoom room (reply_to history command)
     of_command Create fits = tt
     of_command (Assign batch) fits =
-        batch_fits (first_unknown (agreed_of history) batch) (contradicts (agreed_of history).pairs batch) (outcomes_of (agreed_of history).pairs batch) room (omega (arith, fits, length-outcomes_from (musts_from (agreed_of history).pairs batch) batch))
+        batch_fits (first_unknown (agreed_of history) batch) (contradicts (agreed_of history).pairs batch)
+        (outcomes_of (agreed_of history).pairs batch) room (omega (
+          arith,
+          fits,
+          length-outcomes_from
+              (musts_from (agreed_of history).pairs batch) batch,
+        ))
     of_command (Acquire event) fits = count_fits (count_in history event.0) (count_in history event.0 + 1) room
     of_command (Release event) fits = count_fits (count_in history event.0) (count_in history event.0 - 1) room

@@ -11,9 +11,14 @@ twin_of-told-requires-clause-room g c =
 
 pub invariant_of-self-2 : goal.invariant_of-self-2
 invariant_of-self-2 g c =
-    c.push_reserved.ensures.items ∙ journal_grows c.reserve.new.self.items c.self.inside.writer.list c.apply.new.self.list c.args.entry c.count-place.result c.in_ok-reply.reply (c.in_ok-reserve.ensures.items ∙ c.self.invariant) (ap (λ w. w.list) c.in_ok-reply.ensures.list) c.count-place.ensures c.in_ok-reply.ensures.reply
+    c.push_reserved.ensures.items ∙ journal_grows c.reserve.new.self.items c.self.inside.writer.list c.apply.new.self.list c.args.entry
+    c.count-place.result c.in_ok-reply.reply (c.in_ok-reserve.ensures.items ∙ c.self.invariant)
+    (ap (λ w. w.list) c.in_ok-reply.ensures.list) c.count-place.ensures c.in_ok-reply.ensures.reply
 
 pub returns-clause-placed : goal.returns-clause-placed
 returns-clause-placed g c =
     let placed : Placed = record { place = c.count-place.result; reply = c.twin_of-told.result } in
-    subst (λ history. placed ≡ placed_after history c.args.entry) (ap (λ b. b.list) c.self.view_is) (placed_so c.self.inside.writer.list c.apply.new.self.list c.args.entry c.count-place.result c.in_ok-reply.reply c.twin_of-told.result (ap (λ w. w.list) c.in_ok-reply.ensures.list) c.count-place.ensures c.twin_of-told.ensures c.in_ok-reply.ensures.reply)
+    subst (λ history. placed ≡ placed_after history c.args.entry) (ap (λ b. b.list) c.self.view_is)
+    (placed_so c.self.inside.writer.list c.apply.new.self.list c.args.entry c.count-place.result c.in_ok-reply.reply
+    c.twin_of-told.result (ap (λ w. w.list) c.in_ok-reply.ensures.list) c.count-place.ensures c.twin_of-told.ensures
+    c.in_ok-reply.ensures.reply)

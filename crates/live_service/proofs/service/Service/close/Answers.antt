@@ -18,7 +18,8 @@ settle-requires g c =
     let id : ServiceId = record { table = c.self.inside.turn.table; copies = c.self.inside.turn.name } in
     let each : All (IsOf id) c.args.passes.items = subst (λ s. All (IsOf s.id) c.args.passes.items) (sym c.self.view_is) c.requires.each in
     let off = last_off id c.args.passes.items c.pop.new.self.items c.pop.result c.unwrap.result each c.pop.ensures.items c.unwrap.ensures in
-    same_copies c.gather-behind.result.copies c.into_parts-seat.result.1.copies c.self.inside.turn.name c.gather-behind.ensures.name (c.into_parts-seat.ensures.copies ∙ ap (λ i. i.copies) off.own)
+    same_copies c.gather-behind.result.copies c.into_parts-seat.result.1.copies c.self.inside.turn.name c.gather-behind.ensures.name
+    (c.into_parts-seat.ensures.copies ∙ ap (λ i. i.copies) off.own)
 
 pub returns : goal.returns
 returns g c =
@@ -29,5 +30,11 @@ returns g c =
     let off = last_off c.args.self.id xs ys c.pop.result x c.requires.each c.pop.ensures.items c.unwrap.ensures in
     let known : IsPrefix x.known list = subst (λ l. IsPrefix l list) c.into_parts-seat.ensures.reader c.settle.ensures in
     let kept : All (IsKept list) xs = kept_push list xs ys x off.is c.gather-behind.ensures.each known c.into_parts-seat.ensures.commands in
-    let many : length list ≡ made_by_all xs = omega (arith, c.gather-behind.ensures.count, c.into_parts-seat.ensures.seat.gives, made_more xs ys x off.is) in
+    let many : length list ≡ made_by_all xs = omega (
+      arith,
+      c.gather-behind.ensures.count,
+      c.into_parts-seat.ensures.seat.gives,
+      made_more
+          xs ys x off.is,
+    ) in
     (list, c.end.ensures, closes xs list c.requires.apart kept many)

@@ -9,7 +9,8 @@ returns-then-is_all-clause-own g c =
 
 pub loop-preserved : goal.loop-preserved
 loop-preserved g c = record {
-  seat = gave_back c.args.seat.now c.loop.seat c.take-behind.new.seat c.give.new.seat (length c.take-behind.result.list) c.requires.idle.holds c.loop.invariant.seat c.take-behind.ensures.seat c.give.ensures.seat c.give.ensures.gives;
+  seat = gave_back c.args.seat.now c.loop.seat c.take-behind.new.seat c.give.new.seat (length c.take-behind.result.list)
+      c.requires.idle.holds c.loop.invariant.seat c.take-behind.ensures.seat c.give.ensures.seat c.give.ensures.gives;
   empties = omega (arith, c.loop.invariant.empties, c.take-behind.ensures.empties, ap (λ s. s.empties) c.give.ensures.seat);
   reader = learnt_on c.args.reader.now c.loop.reader c.is_all.new.reader c.loop.invariant.reader c.is_all.ensures.rest;
   own = IsPrefix-trans c.args.reader.now.list c.loop.reader.list c.is_all.new.reader.list c.loop.invariant.own c.is_all.ensures.own;
