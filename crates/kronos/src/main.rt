@@ -1,4 +1,5 @@
-//! The program: it reads a script, runs it, and prints its transcript; or it runs a made load, and prints its summary.
+//! The program: it reads a script, runs it, and prints its transcript; it reads a log of processes, and prints its events,
+//! clocks and pairs; or it runs a made load, and prints its summary.
 //!
 //! All that the program does is `kronos_script`, whose contract says for each of its ends what was read, what
 //! was written, and why it came.
