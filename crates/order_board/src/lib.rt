@@ -18,10 +18,6 @@ pub mod laws;
 mod publishing;
 mod reader;
 mod rule;
-#[cfg(test)]
-mod tests;
-#[cfg(test)]
-mod threads;
 mod writer;
 
 pub use door::{Door, Opened, Shut};

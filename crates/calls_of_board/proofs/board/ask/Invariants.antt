@@ -1,6 +1,6 @@
 use Rattle.std.proofs.Common.{◌≡◌}
 use Rattle.kr_order.specs.Prefix.{IsPrefix}
-use Rattle.order_board.proofs.tests.ask.Given as goal
+use Rattle.calls_of_board.proofs.board.ask.Given as goal
 
 abbrev pub invariant-loop : goal.invariant-loop
 invariant-loop l = record {
