@@ -53,8 +53,61 @@ fn write_and_ask<R: Threads + Wait + Sync>(
     reader.query(pairs)
 }
 
-// The same while a second reader asks. What the first is told in the end.
-fn beside_another<R: Threads + Wait + Sync>(
+// Whether these are the answers after so many entries.
+fn are_after(told: &Told, count: u64) -> bool {
+    let answers = [
+        Answer::Before,
+        Answer::After,
+        Answer::Concurrent,
+        Answer::Unknown,
+    ];
+    told.entry == count && told.answers.as_slice() == answers.as_slice()
+}
+
+// Thirty entries are written beside a reader.
+fn thirty<R: Threads + Wait + Abort + Sync>(
+    rt: &R,
+    alloc: Global,
+    writer: &mut BoardWriter,
+    readers: &mut Readers,
+) -> Result<(), Fail>
+    requires copies { readers.old.copies ≡ writer.old.copies }
+    requires left { readers.old.left ≡ 1 }
+    requires list { writer.old.list ≡ [] }
+{
+    let mut reader = readers.take().unwrap();
+    let entries = entries(alloc, 30)?;
+    let pairs = pairs_of(alloc, &[(19, 20), (20, 19), (1, 20), (1, 21)])?;
+    assert!(rt; entries.len() == 30);
+    let told = write_and_ask(rt, writer, &mut reader, &entries, &pairs)?;
+    assert!(rt; are_after(&told, 30));
+    Ok(())
+}
+
+#[test]
+fn entries_are_written_while_another_thread_asks(rt: HostRuntime) -> Result<(), Fail> {
+    let (mut writer, mut readers) = two_copies(&rt, rt.alloc(), 1)?;
+    let steps = thirty(&rt, rt.alloc(), &mut writer, &mut readers);
+    writer.end(&rt);
+    steps
+}
+
+// Both readers ask these pairs at the same time.
+fn ask_both<R: Threads + Sync>(
+    rt: &R,
+    one: &mut BoardReader,
+    other: &mut BoardReader,
+    pairs: &Asked,
+) -> (Result<(), QueryStop>, Result<(), QueryStop>) {
+    join_mut(
+        rt,
+        &mut || ask(one, pairs, 1000),
+        &mut || ask(other, pairs, 1000),
+    )
+}
+
+// These entries are written while both readers ask. What the one is told in the end.
+fn write_beside<R: Threads + Wait + Sync>(
     rt: &R,
     writer: &mut BoardWriter,
     one: &mut BoardReader,
@@ -62,27 +115,19 @@ fn beside_another<R: Threads + Wait + Sync>(
     entries: &[Entry],
     pairs: &Asked,
 ) -> Result<Told, QueryStop>
-    requires copies { one.old.copies ≡ writer.old.copies }
-    requires few { length writer.old.list + length entries.now < 2 ^ 58 }
+    requires { length writer.old.list + length entries.now < 2 ^ 58 }
 {
-    let (told, asked) = join_mut(
+    let (written, asked) = join_mut(
         rt,
-        &mut || write_and_ask(rt, writer, one, entries, pairs),
-        &mut || ask(other, pairs, 1000),
+        &mut || write(rt, writer, entries),
+        &mut || ask_both(rt, one, other, pairs),
     );
-    asked?;
-    told
-}
-
-// Whether these are the answers after ten thousand entries.
-fn are_of_ten_thousand(told: &Told) -> bool {
-    let answers = [
-        Answer::Before,
-        Answer::After,
-        Answer::Concurrent,
-        Answer::Unknown,
-    ];
-    told.entry == 10_000 && told.answers.as_slice() == answers.as_slice()
+    let Ok(()) = written else {
+        return Err(QueryStop::NoMemory);
+    };
+    asked.0?;
+    asked.1?;
+    one.query(pairs)
 }
 
 // Ten thousand entries are written beside two readers.
@@ -90,28 +135,33 @@ fn ten_thousand<R: Threads + Wait + Abort + Sync>(
     rt: &R,
     alloc: Global,
     writer: &mut BoardWriter,
-    readers: &mut Readers,
+    one: &mut BoardReader,
+    other: &mut BoardReader,
 ) -> Result<(), Fail>
-    requires copies { readers.old.copies ≡ writer.old.copies }
-    requires left { readers.old.left ≡ 2 }
-    requires list { writer.old.list ≡ [] }
+    requires { writer.old.list ≡ [] }
 {
-    let mut one = readers.take().unwrap();
-    let mut other = readers.take().unwrap();
     let entries = entries(alloc, 10_000)?;
     let pairs = pairs_of(alloc, &[(19, 20), (20, 19), (1, 20), (1, 9000)])?;
     assert!(rt; entries.len() == 10_000);
-    let told = beside_another(rt, writer, &mut one, &mut other, &entries, &pairs)?;
-    assert!(rt; are_of_ten_thousand(&told));
+    let told = write_beside(rt, writer, one, other, &entries, &pairs)?;
+    assert!(rt; are_after(&told, 10_000));
     Ok(())
 }
 
 #[test]
-fn entries_are_written_while_other_threads_ask(rt: HostRuntime) -> Result<(), Fail> {
+fn two_readers_ask_while_ten_thousand_entries_are_written(rt: HostRuntime) -> Result<(), Fail> {
     let (mut writer, mut readers) = two_copies(&rt, rt.alloc(), 2)?;
-    let steps = ten_thousand(&rt, rt.alloc(), &mut writer, &mut readers);
+    let mut first = readers.take();
+    let mut second = readers.take();
+    let run = match &mut first {
+        None => Err("no reader".into()),
+        Some(one) => match &mut second {
+            None => Err("no second reader".into()),
+            Some(other) => ten_thousand(&rt, rt.alloc(), &mut writer, one, other),
+        },
+    };
     writer.end(&rt);
-    steps
+    run
 }
 
 // The first event is made, and who enters by the door sees it. The door comes back.
