@@ -155,11 +155,6 @@ before_is imported is a b process low high low' high' apart of =
     let turn' : (b - 1) + 1 ≡ b = omega arith in
     ap (λ n. leb n (part_of imported.events (Some (b - 1)) process)) one ∙ ap (λ n. leb (component lines (a - 1) process) n) other ∙ ap (λ p. leb (component lines (a - 1) p) (component lines (b - 1) p)) own ∙ own_says imported.processes lines (a - 1) (b - 1) good below differ ∙ ap (λ x. reach (pairs_of_log lines) x ((b - 1) + 1)) turn ∙ ap (λ y. reach (pairs_of_log lines) a y) turn' ∙ ap (λ ps. reach ps a b) (sym tells.pairs)
 
--- no event is before itself
-pub not_itself : (imported : Imported) → IsImported imported → (a b : ℕ) → a ≡ b → false ≡ reach (numbered imported.pairs) a b
-not_itself imported is a b same =
-    sym (ap (λ ps. reach ps a b) is.tells.pairs ∙ ap (λ y. reach (pairs_of_log is.lines) a y) (sym same) ∙ is.tells.acyclic.no_cycle a)
-
 -- the same of what the code reads
 pub before_at : (imported : Imported) → IsImported imported → (a b : ℕ) (slice : List Clocked) (elem d : Clocked) (x y : ℕ) → IsFromOneTo (length imported.events) a → IsFromOneTo (length imported.events) b → (a ≡ b → ⊥) → slice ≡ imported.events → elem ≡ get_or slice (a - 1) d → x ≡ part_of slice (Some (a - 1)) elem.process → y ≡ part_of slice (Some (b - 1)) elem.process → leb x y ≡ reach (numbered imported.pairs) a b
 before_at imported is a b slice elem d x y fit fit' apart same read is-x is-y =

@@ -3,7 +3,7 @@ use Rattle.std.proofs.Common.{◌≡◌, ℕ, ◌+◌, ◌-◌, ◌<◌, ◌≤�
 use Rattle.std.specs.Prelude.{map}
 use Rattle.std.specs.List.{range_with_len}
 use Rattle.std.proofs.lemmas.Bool.{cases_eq}
-use Rattle.std.proofs.lemmas.List.{ext_get_or, get_or-map, length-map, get_or_default}
+use Rattle.std.proofs.lemmas.List.{ext_get_or, length-map, get_or_default}
 use Rattle.std.proofs.lemmas.List.Elements.{All-get_or}
 use Rattle.std.proofs.lemmas.List.FromFn.{length-map-range_with_len, get_or-map-range_with_len}
 use Rattle.clock_import.specs.declared.log.Act.{Act}
@@ -50,15 +50,6 @@ same_parts processes lines e part part' log same is =
 
 no_clock : (lines : List LogLine) → length (map bare lines) ≡ length lines
 no_clock lines = length-map lines bare
-
--- no event has its clock yet
-pub clocked_none : (processes : ℕ) (lines : List LogLine) (order : List ℕ) → AreClocked processes lines order 0 (map bare lines)
-clocked_none processes lines order =
-    record {
-      many = no_clock lines;
-      processes_are = λ e below. ap (λ (c : Clocked). c.process) (get_or-map bare lines e (record { process = 0; act = Bad }) (record { process = 0; clock = [] }) below);
-      right = λ j low. absurd (omega arith);
-    }
 
 -- one more has it
 pub clocked_more : (processes : ℕ) (lines : List LogLine) (links : List Link) (order : List ℕ) (n : ℕ) (events : List Clocked) (old : Clocked) (clock : List ℕ) → IsLog processes lines → AreLinks lines links → IsOrder links (length lines) order → AreClocked processes lines order n events → n < length order → old ≡ get_or events (get_or order n 0) (record { process = 0; clock = [] }) → clock ≡ map (joined_at (line_at lines (get_or order n 0)).process (link_at links (get_or order n 0)) events) (range_with_len 1 processes) → AreClocked processes lines order (n + 1) (set events (get_or order n 0) (record { process = old.process; clock = clock }))

@@ -14,3 +14,4 @@ pub mod OnceLemmas
 pub mod GatherLemmas
 pub mod ReplayLemmas
 pub mod ImportLemmas
+pub mod PrintLemmas

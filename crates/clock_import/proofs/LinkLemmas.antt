@@ -1,10 +1,10 @@
 -- The links of a log, line by line.
 use Rattle.std.proofs.Common.{◌≡◌, ℕ, ◌+◌, ◌<◌, ◌≤◌, false, cond, eqb, Option, None, Some, List, [], ◌∷◌, ◌++◌, length, get_or, set, take, refl, sym, ap, ◌∙◌, subst, ⊎_elim, arith, length-set, get_or-set_same, get_or-set_other}
 use Rattle.std.proofs.lemmas.Bool.{eq-eqb, cases_eq, false_from_ne_true, eqb-true}
-use Rattle.std.proofs.lemmas.List.{length_push, get_or_push, get_or_append_left, length-replicate, get_or-replicate, get_or_default, length-take-le}
+use Rattle.std.proofs.lemmas.List.{length_push, get_or_push, get_or_append_left, get_or_default, length-take-le}
 use Rattle.std.proofs.lemmas.List.Elements.{All-get_or}
 use Rattle.std.proofs.lemmas.List.Sums.{count_by-le-length}
-use Rattle.std.specs.Prelude.{All, replicate}
+use Rattle.std.specs.Prelude.{All}
 use Rattle.clock_import.specs.declared.log.Act.TheVariants.{Bad}
 use Rattle.clock_import.specs.declared.log.LogLine.{LogLine}
 use Rattle.clock_import.specs.declared.links.Link.{Link}
@@ -67,18 +67,6 @@ links_more processes lines i seen links of source before below le is from =
           let many = before.many in
           get_or_append_left links (record { prior = of.last; source = source; number = of.count + 1 } ∷ []) (record { prior = None; source = None; number = 0 }) k (omega arith) ∙ before.each k (omega arith))
           (cases_eq k i);
-    }
-
--- no line was read yet
-pub links_none : (processes : ℕ) (lines : List LogLine) → AreLinksTo processes lines 0 (replicate (processes + 1) (record { last = None; count = 0 })) []
-links_none processes lines =
-    record {
-      seen_is = record {
-        many = length-replicate (processes + 1) (record { last = None; count = 0 });
-        each = λ p le. get_or-replicate (processes + 1) p (record { last = None; count = 0 }) (record { last = None; count = 0 }) (omega arith);
-      };
-      many = refl;
-      each = λ k low. absurd (omega arith);
     }
 
 -- the same of a line that was read

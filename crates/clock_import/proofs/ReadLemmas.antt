@@ -1,5 +1,5 @@
 -- Logs are read line by line.
-use Rattle.std.proofs.Common.{◌≡◌, ◌≢◌, ◌⊎◌, ℕ, ◌+◌, ◌^◌, ◌<◌, ◌≤◌, false, true, List, [], ◌∷◌, ◌++◌, length, get_or, drop, refl, sym, ap, ◌∙◌, subst, inr, arith, append_assoc, None}
+use Rattle.std.proofs.Common.{◌≡◌, ◌≢◌, ℕ, ◌^◌, ◌<◌, ◌≤◌, false, true, List, [], ◌∷◌, ◌++◌, length, get_or, drop, refl, sym, ap, ◌∙◌, subst, arith, append_assoc, None}
 use Rattle.std.specs.Prelude.{All, map, flat_map, codes}
 use Rattle.std.specs.Fmt.{decimal}
 use Rattle.std.proofs.lemmas.Bool.{false≢true}
@@ -14,8 +14,7 @@ use Rattle.clock_import.specs.declared.log.Act.{Act}
 use Rattle.clock_import.specs.declared.log.Act.TheVariants.{Local, Send, Receive, Bad}
 use Rattle.clock_import.specs.declared.log.LogLine.{LogLine}
 use Rattle.clock_import.specs.Log.{most_message, IsAct, IsLine, words_of, line_text, line_at, is_allowed, is_good, first_line, Parses}
-use Rattle.clock_import.specs.Reading.{Gives, IsReadAs, ReadLine, IsReadLine, IsReadTo, BeginsWithFirst, IsBadLine}
-use Rattle.clock_import.specs.Messages.{IsFirstBad}
+use Rattle.clock_import.specs.Reading.{Gives, IsReadAs, ReadLine, IsReadLine, IsReadTo, BeginsWithFirst}
 use Rattle.clock_import.specs.Read.{ReadsFirst, IsReadFrom, both_words}
 
 -- the bytes are lines of which each is read, and then the rest
@@ -25,10 +24,6 @@ pub record IsReading (bytes : List ℕ) (processes : ℕ) (lines : List LogLine)
   pub lines_are : lines ≡ map (λ read. read.entry) reads
   pub whole : bytes ≡ flat_map (λ read. line read.text) reads ++ rest
   pub few : length lines ≤ 20000
-
-pub reading_starts : (bytes : List ℕ) (processes : ℕ) → IsReading bytes processes [] bytes
-reading_starts bytes processes =
-    record { reads = []; each = All-nil (IsReadLine processes); lines_are = refl; whole = refl; few = omega arith }
 
 -- one line more is read
 pub reading_more : (bytes : List ℕ) (processes : ℕ) (lines : List LogLine) (rest text more : List ℕ) (entry : LogLine) → IsReading bytes processes lines rest → IsCut rest text more → IsReadAs processes text entry → length lines < 20000 → IsReading bytes processes (lines ++ entry ∷ []) more
@@ -43,10 +38,6 @@ reading_more bytes processes lines rest text more entry before cut gives room =
       whole = before.whole ∙ ap (λ r. flat_map (λ (r : ReadLine). line r.text) before.reads ++ r) cut.whole ∙ sym (append_assoc (flat_map (λ (r : ReadLine). line r.text) before.reads) (line text) more) ∙ ap (λ l. l ++ more) lines_text;
       few = omega arith;
     }
-
-pub reading_ends : (bytes : List ℕ) (processes : ℕ) (lines : List LogLine) (rest : List ℕ) → IsReading bytes processes lines rest → HasNoEnd rest ⊎ (length lines ≡ 20000) → IsReadFrom bytes processes lines rest
-reading_ends bytes processes lines rest read ends =
-    record { reads = read.reads; each = read.each; lines_are = read.lines_are; whole = read.whole; few = read.few; ends = ends }
 
 -- the first line has no LF in it
 pub first_no_end : (processes : ℕ) → IsFromOneTo 64 processes → HasNoEnd (codes "processes " ++ decimal processes)
@@ -74,15 +65,6 @@ both_cut words first second p m fits free is same =
     let cut = cut_once (λ b. b ≢ 32) first (32 ∷ second) (decimal p) (32 ∷ decimal m) free (decimal_no_space p fits) (λ other. other refl) (λ other. other refl) (sym is ∙ same ∙ append_assoc (decimal p) (32 ∷ []) (decimal m)) in
     (cut.0, ap (drop 1) cut.1)
 
--- words without a space are not two numbers
-pub no_both : (words : List ℕ) (p m : ℕ) → HasNoSpace words → words ≢ both_words (p, m)
-no_both words p m free same =
-    spaced (decimal p) (decimal m) (subst HasNoSpace (same ∙ append_assoc (decimal p) (32 ∷ []) (decimal m)) free)
-  where
-    spaced : (xs ys : List ℕ) → HasNoSpace (xs ++ 32 ∷ ys) → ⊥
-    spaced [] ys free = All-head (λ b. b ≢ 32) 32 ys free refl
-    spaced (x ∷ xs) ys free = spaced xs ys (All-tail (λ b. b ≢ 32) x (xs ++ 32 ∷ ys) free)
-
 -- a text that is none of the three kinds of lines is a bad one
 pub bad_text : (processes : ℕ) (text : List ℕ) → ((p : ℕ) → IsFromOneTo processes p → text ≢ codes "local " ++ decimal p) → ((p m : ℕ) → IsFromOneTo processes p → IsFromOneTo most_message m → text ≢ codes "send " ++ both_words (p, m)) → ((p m : ℕ) → IsFromOneTo processes p → IsFromOneTo most_message m → text ≢ codes "receive " ++ both_words (p, m)) → IsReadAs processes text (record { process = 0; act = Bad })
 bad_text processes text no_local no_send no_receive = (refl, λ other fit is. by_act other fit is other.act refl fit.act)
@@ -97,11 +79,6 @@ bad_text processes text no_local no_send no_receive = (refl, λ other fit is. by
     by_act other fit is (Receive m) same act =
         no_receive other.process m fit.process (subst IsAct same act) (spelt other is (Receive m) same)
     by_act other fit is Bad same act = subst IsAct same act
-
--- where no line of a kind is spelt behind its first word, the text is a bad one
-pub bad_local : (processes : ℕ) (words text : List ℕ) → ((p : ℕ) → IsFromOneTo processes p → words ≢ decimal p) → text ≡ codes "local " ++ words → IsReadAs processes text (record { process = 0; act = Bad })
-bad_local processes words text none is =
-    bad_text processes text (λ p fit same. none p fit (append_cancel_left (codes "local ") words (decimal p) (sym is ∙ same))) (λ p m fit fit' same. let heads : 108 ≡ 115 = ap (λ xs. get_or xs 0 0) (sym is ∙ same) in absurd (omega arith)) (λ p m fit fit' same. let heads : 108 ≡ 114 = ap (λ xs. get_or xs 0 0) (sym is ∙ same) in absurd (omega arith))
 
 pub bad_send : (processes : ℕ) (words text : List ℕ) → Spells both_words (AreFromOneTo processes most_message) words None → text ≡ codes "send " ++ words → IsReadAs processes text (record { process = 0; act = Bad })
 bad_send processes words text none is =
@@ -124,41 +101,9 @@ all_read bytes processes behind lines rest first read =
       ends = read.ends;
     }
 
--- a line that may stand there
-pub first_bad_stops : (bytes : List ℕ) (processes : ℕ) (lines : List LogLine) (rest : List ℕ) (i : ℕ) → IsReadTo bytes processes lines rest → IsFirstBad lines i → IsBadLine bytes (i + 2)
-first_bad_stops bytes processes lines rest i read first =
-    let below = first.within in
-    inr (record {
-      processes = processes;
-      lines = lines;
-      rest = rest;
-      read = read;
-      index = i;
-      number = refl;
-      within = omega arith;
-      good = first.good;
-      bad = first.bad;
-      more = λ last. absurd (omega arith);
-    })
-
 past_bad : (lines : List LogLine) (i : ℕ) → length lines ≤ i → is_good lines i ≡ false
 past_bad lines i past =
     ap (λ (entry : LogLine). is_allowed lines i entry.act) (get_or_past lines i (record { process = 0; act = Bad }) past)
-
-pub rest_stops : (bytes : List ℕ) (processes : ℕ) (lines : List LogLine) (rest : List ℕ) → IsReadTo bytes processes lines rest → ((i : ℕ) → i < length lines → is_good lines i ≡ true) → rest ≢ [] → IsBadLine bytes (length lines + 2)
-rest_stops bytes processes lines rest read good more =
-    inr (record {
-      processes = processes;
-      lines = lines;
-      rest = rest;
-      read = read;
-      index = length lines;
-      number = refl;
-      within = omega arith;
-      good = good;
-      bad = past_bad lines (length lines) (omega arith);
-      more = λ _. more;
-    })
 
 -- what is read as a line that may stand there spells it
 not_bad : (lines : List LogLine) (i : ℕ) (act : Act) → is_allowed lines i act ≡ true → act ≢ Bad

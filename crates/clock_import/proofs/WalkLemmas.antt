@@ -1,9 +1,8 @@
 -- How a walk that puts events in order goes on, and how it ends.
-use Rattle.std.proofs.Common.{◌≡◌, ◌⊎◌, ℕ, ◌+◌, ◌<◌, ◌≤◌, Bool, true, false, cond, List, [], ◌∷◌, ◌++◌, length, get_or, set, refl, sym, ap, ◌∙◌, subst, inl, inr, ⊎_elim, arith, length-set, get_or-set_same, get_or-set_other}
+use Rattle.std.proofs.Common.{◌≡◌, ◌⊎◌, ℕ, ◌+◌, ◌<◌, ◌≤◌, Bool, true, false, List, [], ◌∷◌, ◌++◌, length, get_or, set, refl, sym, ap, ◌∙◌, subst, inl, inr, ⊎_elim, arith, length-set, get_or-set_same, get_or-set_other}
 use Rattle.std.specs.Prelude.{count_by, not, replicate}
 use Rattle.std.proofs.lemmas.Bool.{false≢true, cases_eq, cases_lt}
 use Rattle.std.proofs.lemmas.List.{length_push, get_or_push, get_or_append_left, get_or_past, length-replicate, get_or-replicate}
-use Rattle.std.proofs.lemmas.List.Sums.{sum_by-set}
 use Rattle.kr_order.specs.Order.{reach}
 use Rattle.kr_order.proofs.OrderLemmas.{reach-trans}
 use Rattle.clock_import.specs.declared.links.Link.{Link}
@@ -52,12 +51,6 @@ marked_cases marks a b is =
 abbrev pub untaken : List Bool → ℕ
 untaken marks = count_by not marks
 
-pub untaken_falls : (marks : List Bool) (a : ℕ) → a < length marks → is_marked marks a ≡ false → untaken (set marks a true) + 1 ≡ untaken marks
-untaken_falls marks a below is =
-    let whole : untaken (set marks a true) + cond {A = ℕ} (not (get_or marks a false)) 1 0 ≡ untaken marks + 0 = sum_by-set (λ (b : Bool). cond (not b) 1 0) marks a true false below in
-    let was : cond {A = ℕ} (not (get_or marks a false)) 1 0 ≡ 1 = ap (λ b. cond (not b) 1 0) is in
-    omega arith
-
 -- the walk on its way to the event e: what it began with, what is done and was taken up, the order, and the way to go
 -- back
 pub record IsVisiting (links : List Link) (e : ℕ) (begun done taken : List Bool) (order stack : List ℕ) : Type 0 where
@@ -70,20 +63,6 @@ pub record IsVisiting (links : List Link) (e : ℕ) (begun done taken : List Boo
   pub path : (pairs : List (ℕ × ℕ)) → Says links (length begun) pairs → (i j : ℕ) → i < j → j < length stack → reach pairs (get_or stack j 0 + 1) (get_or stack i 0 + 1) ≡ true
   pub opened : (a : ℕ) → is_marked taken a ≡ true → (is_marked done a ≡ true) ⊎ Stands stack a
   pub goal : (is_marked done e ≡ true) ⊎ Stands stack e
-
-pub visit_starts : (links : List Link) (e : ℕ) (done taken : List Bool) (order : List ℕ) → IsWalk links (length done) done taken order → e < length done → IsVisiting links e done done taken order (e ∷ [])
-visit_starts links e done taken order walk below =
-    record {
-      done_many = refl;
-      taken_many = walk.taken_many;
-      ordered = walk.ordered;
-      placed = walk.placed;
-      kept = λ a is. is;
-      within = λ j low. let first : 0 ≡ j = omega arith in subst (λ k. get_or (e ∷ []) k 0 < length done) first below;
-      path = λ pairs says i j low high. absurd (omega arith);
-      opened = λ a is. inl (walk.closed a is);
-      goal = inr (stands_last [] e);
-    }
 
 -- an event on the way, one on from which the last comes
 pub visit_pushes : (links : List Link) (e : ℕ) (begun done taken : List Bool) (order rest : List ℕ) (top a : ℕ) → IsVisiting links e begun done taken order (rest ++ top ∷ []) → LeadsTo (link_at links top) a → a < length done → IsVisiting links e begun done (set taken a true) order (rest ++ top ∷ [] ++ a ∷ [])
@@ -263,29 +242,6 @@ visit_turns links e begun done taken order rest top a before leads below undone 
 
 nowhere : (a : ℕ) → Stands [] a → ⊥
 nowhere a there = let low = there.1 in omega arith
-
--- nothing is left to go back to
-pub visit_ends : (links : List Link) (e : ℕ) (begun done taken : List Bool) (order : List ℕ) → IsVisiting links e begun done taken order [] → IsVisited links e begun done taken order
-visit_ends links e begun done taken order last =
-    record {
-      walk = record {
-        done_many = last.done_many;
-        taken_many = last.taken_many;
-        ordered = last.ordered;
-        placed = last.placed;
-        closed = λ a is. only a (last.opened a is);
-      };
-      reached = only e last.goal;
-      kept = last.kept;
-    }
-  where
-    only : (a : ℕ) → (is_marked done a ≡ true) ⊎ Stands [] a → is_marked done a ≡ true
-    only a (inl is) = is
-    only a (inr there) = absurd (nowhere a there)
-
--- an event that was done needs no visit
-pub visit_done : (links : List Link) (e : ℕ) (done taken : List Bool) (order : List ℕ) → IsWalk links (length done) done taken order → is_marked done e ≡ true → IsVisited links e done done taken order
-visit_done links e done taken order walk is = record { walk = walk; reached = is; kept = λ a was. was }
 
 visited_so : (links : List Link) (e : ℕ) (done done' taken' : List Bool) (order' : List ℕ) (b : Bool) → b ≡ true → Visits links e done done' taken' order' b → IsVisited links e done done' taken' order'
 visited_so links e done done' taken' order' true is visits = visits

@@ -1,5 +1,6 @@
 -- Logs of processes: what their lines are, how they are spelt, and which of them may stand in a log.
-use Rattle.std.specs.Prelude.{◌≡◌, ℕ, ◌<◌, ◌≤◌, Bool, true, false, ◌&&◌, ◌==◌, List, ◌++◌, length, slice_index_or, flat_map, All, codes, Option, None, Some, is_some}
+use Rattle.std.specs.Prelude.{◌≡◌, ℕ, ◌<◌, ◌≤◌, Bool, true, false, ◌&&◌, ◌==◌, List, ◌++◌, length, slice_index_or, flat_map, All, codes}
+use Rattle.std.specs.Prelude.{Option, None, Some, is_some}
 use Rattle.std.specs.List.{position_from}
 use Rattle.std.specs.Fmt.{decimal}
 use Rattle.script_lang.specs.Line.{line}

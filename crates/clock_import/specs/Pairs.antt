@@ -1,5 +1,6 @@
 -- The pairs of a log. The line at the index i, from 0, is event i + 1.
-use Rattle.std.specs.Prelude.{ℕ, zero, suc, ◌+◌, Bool, ◌&&◌, ◌==◌, nat_lt, if◌then◌else◌, List, [], ◌∷◌, ◌++◌, length, reverse, take, map, Option, None, Some}
+use Rattle.std.specs.Prelude.{ℕ, zero, suc, ◌+◌, Bool, ◌&&◌, ◌==◌, nat_lt, if◌then◌else◌, List, [], ◌∷◌, ◌++◌, length, reverse, take}
+use Rattle.std.specs.Prelude.{map, Option, None, Some}
 use Rattle.kr_order.specs.declared.ids.EventId.{EventId}
 use Rattle.clock_import.specs.declared.log.Act.{Act}
 use Rattle.clock_import.specs.declared.log.Act.TheVariants.{Local, Send, Receive, Bad}

@@ -1,6 +1,6 @@
 //! The text of an import.
 
-ghost use Rattle.std.specs.Prelude.{◌≡◌, ◌++◌, ◌+◌, ◌^◌, ◌<◌, flat_map, codes, OnOk};
+ghost use Rattle.std.specs.Prelude.{◌≡◌, ◌++◌, ◌+◌, ◌^◌, ◌<◌, [], ◌∷◌, flat_map, codes, OnOk};
 ghost use Rattle.std.specs.Fmt.{decimal};
 ghost use Rattle.clock_import.specs.Text.{clock_text, event_line, event_lines, pair_line, import_text};
 
@@ -53,6 +53,42 @@ fn put_event(out: &mut Vec<u8>, i: usize, clocked: &Clocked) -> Result<(), NoMem
     put_text(out, b"\n")
 }
 
+// The digit.
+fn put_digit(out: &mut Vec<u8>, digit: u64) -> Result<(), NoMemory>
+    requires { digit < 10 }
+    ensures { OnOk result (out.new.items ≡ out.old.items ++ (48 + digit) ∷ []) }
+{
+    out.push(b'0' + digit as u8)?;
+    Ok(())
+}
+
+// The number, of one digit or two.
+#[tactic(auto, using(crate::proofs::PrintLemmas::put_one, crate::proofs::PrintLemmas::put_second))]
+fn put_few(out: &mut Vec<u8>, n: u64) -> Result<(), NoMemory>
+    requires { n < 100 }
+    ensures { OnOk result (out.new.items ≡ out.old.items ++ decimal n) }
+{
+    if n >= 10 {
+        put_digit(out, n / 10)?;
+    }
+    put_digit(out, n % 10)
+}
+
+// A number of a clock: most are small, and are put digit by digit.
+#[tactic(auto, using(crate::proofs::PrintLemmas::put_last))]
+fn put_part(out: &mut Vec<u8>, part: u64) -> Result<(), NoMemory>
+    ensures { OnOk result (out.new.items ≡ out.old.items ++ decimal part) }
+{
+    if part >= 1000 {
+        return put_number(out, part);
+    }
+    if part < 100 {
+        return put_few(out, part);
+    }
+    put_few(out, part / 10)?;
+    put_digit(out, part % 10)
+}
+
 // The numbers of the clock, with a comma between two.
 fn put_clock(out: &mut Vec<u8>, clock: &[u64]) -> Result<(), NoMemory>
     ensures { OnOk result (out.new.items ≡ out.old.items ++ clock_text clock.now) }
@@ -60,7 +96,7 @@ fn put_clock(out: &mut Vec<u8>, clock: &[u64]) -> Result<(), NoMemory>
     let [part, parts @ ..] = clock else {
         return Ok(());
     };
-    put_number(out, *part)?;
+    put_part(out, *part)?;
     put_parts(out, parts)
 }
 
@@ -70,7 +106,7 @@ fn put_parts(out: &mut Vec<u8>, parts: &[u64]) -> Result<(), NoMemory>
 {
     for part in parts {
         out.push(b',')?;
-        put_number(out, *part)?;
+        put_part(out, *part)?;
     }
     Ok(())
 }
