@@ -5,7 +5,8 @@ ghost use Rattle.std.specs.Rc.{rc_str_bytes};
 ghost use Rattle.script_lang.specs.declared.script.Script.{Script as ScriptRead};
 ghost use Rattle.script_lang.specs.Number.{IsFromOneTo};
 ghost use Rattle.script_lang.specs.Script.{Parses};
-ghost use Rattle.kronos_driver.specs.Ends.{AskForScript, AskForLoad, input_limit};
+ghost use Rattle.kronos_runs.specs.declared.exit.Exit.{Exit as ExitOf};
+ghost use Rattle.kronos_driver.specs.Ends.{AskForScript, AskForLoad, AskForImport, IsImportEnd, input_limit};
 
 use crate::script::kronos_script;
 use kr_text::{NoFaultSink, NoFaultSource};
@@ -14,8 +15,8 @@ use std::alloc::Global;
 use std::rc::RcStr;
 use std::thread::Threads;
 
-/// Runs the program over a source and a sink that never fail: no fault is answered, and a script of at most 1,048,576
-/// bytes, and a load, end in `Done` or `NoMemory`.
+/// Runs the program over a source and a sink that never fail: no fault is answered; a script of at most 1,048,576 bytes,
+/// and a load, end in `Done` or `NoMemory`; and an import of at most so many bytes as its log says, or in `NoMemory`.
 pub fn exit_without_faults<R: Threads + Sync>(
     rt: &R,
     alloc: Global,
@@ -29,6 +30,8 @@ pub fn exit_without_faults<R: Threads + Sync>(
         → (script : ScriptRead) → Parses source.old script → (result ≡ Exit.Done) ⊎ (result ≡ Exit.NoMemory) }
     ensures load { (rounds : ℕ) → AskForLoad rounds (map rc_str_bytes words.now)
         → (result ≡ Exit.Done) ⊎ (result ≡ Exit.NoMemory) }
+    ensures log { AskForImport (map rc_str_bytes words.now) → length source.old ≤ input_limit
+        → (due : ExitOf) → IsImportEnd source.old due → (result ≡ due) ⊎ (result ≡ Exit.NoMemory) }
 {
     kronos_script(rt, alloc, words, source, sink)
 }
