@@ -5,3 +5,5 @@ pub mod CountLemmas
 pub mod PassLemmas
 pub mod CloseLemmas
 pub mod AllLemmas
+pub mod CallLemmas
+pub mod RunLemmas

@@ -8,17 +8,21 @@
 #![tactic(auto)]
 
 mod behind;
+mod calls;
 mod close;
 mod command;
 mod name;
 mod pass;
 mod reply;
+mod run;
 mod service;
 #[cfg(test)]
 mod tests;
 
+pub use calls::{CallAnswers, LiveAnswer};
 pub use command::TryStop;
 pub use name::CopiesName;
 pub use order_board::QueryStop;
 pub use pass::{Pass, Passes};
+pub use run::{ClientAnswers, LiveRun, run_live};
 pub use service::Service;

@@ -1,10 +1,13 @@
 //! Each call of a service, by one thread.
 
-ghost use Rattle.std.specs.Prelude.{◌≡◌, []};
+ghost use Rattle.std.specs.Prelude.{◌≡◌, [], ◌∷◌, IfOk};
+ghost use Rattle.kr_order.specs.declared.history.Command.TheVariants.{Create};
+ghost use Rattle.script_lang.specs.declared.live.LiveCall.TheVariants.{Command as Making};
 
 use super::*;
-use kr_order::{Answer, Asked, Command, EventId, PushStop};
+use kr_order::{Answer, Asked, ClientId, Command, EventId, NoMemory, PushStop};
 use kr_text::OpenGate;
+use script_lang::{LiveCall, LiveCalls, LivePlan};
 use std::alloc::Global;
 use std::process::Abort;
 use std::sync::Wait;
@@ -69,5 +72,24 @@ fn a_service_ends_without_its_journal(rt: HostRuntime) -> Result<(), Fail> {
     all.push_reserved(pass);
     service.end(&rt, all);
     assert_eq!(&rt; placed?.place, 1);
+    Ok(())
+}
+
+// A plan in which the only client makes an event.
+fn plan_of_one(alloc: Global) -> Result<LivePlan, NoMemory>
+    ensures clients { IfOk result (λ plan. plan.clients ≡ 1) }
+    ensures calls { IfOk result (λ plan. plan.calls ≡ (record { 0 = 1 }, Making Create) ∷ []) }
+{
+    let mut calls = LiveCalls::new(alloc);
+    calls.push((ClientId(1), LiveCall::Command(Command::Create)))?;
+    Ok(LivePlan { clients: 1, calls })
+}
+
+#[test]
+fn the_only_client_makes_an_event(rt: HostRuntime) -> Result<(), Fail> {
+    let alloc = rt.alloc();
+    let plan = plan_of_one(alloc)?;
+    let run = run_live(&rt, alloc, &plan, &OpenGate)?;
+    assert_eq!(rt; (run.calls.len(), run.journal.len()), (1, 1));
     Ok(())
 }
