@@ -1,6 +1,6 @@
 //! An order from nothing: entries are put into it, and it is asked.
 
-ghost use Rattle.std.specs.Prelude.{◌≡◌, ◌^◌, ◌<◌, [], ◌∷◌, ◌++◌, length, codes, string_bytes, IfOk, OnOk, OnErr};
+ghost use Rattle.std.specs.Prelude.{◌≡◌, ◌+◌, ◌^◌, ◌<◌, [], ◌∷◌, ◌++◌, length, codes, string_bytes, IfOk, OnOk, OnErr};
 ghost use Rattle.kr_order.specs.Answer.{answer_to};
 ghost use Rattle.kr_order.specs.Reply.{reply_to};
 ghost use Rattle.kr_order.specs.Rows.{assign, must};
@@ -50,6 +50,30 @@ pub fn put(state: &mut State, entry: &Entry) -> Result<Reply, NoMemory>
 {
     let prepared = state.prepare(entry)?;
     Ok(state.apply(prepared))
+}
+
+/// Puts these entries into the order, one after the other. After `NoMemory` those before the one that found none are in it.
+pub fn put_all(state: &mut State, entries: &[Entry]) -> Result<(), NoMemory>
+    requires { length state.old.history + length entries.now < 2 ^ 58 }
+    ensures { OnOk result (state.new.history ≡ state.old.history ++ entries.now) }
+{
+    for entry in entries {
+        put(state, entry)?;
+    }
+    Ok(())
+}
+
+/// Makes so many events, as client 1, whose commands have these numbers and those behind them.
+pub fn create_all(state: &mut State, first: u64, times: u64) -> Result<(), NoMemory>
+    requires { first.now + times.now < 2 ^ 64 }
+{
+    for made in 0..times {
+        if state.count() >= 1 << 57 {
+            return Err(NoMemory);
+        }
+        put(state, &entry(first + made, Command::Create))?;
+    }
+    Ok(())
 }
 
 /// How the first event stands to the second after the history.
