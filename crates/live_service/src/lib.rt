@@ -11,6 +11,7 @@ mod behind;
 mod calls;
 mod close;
 mod command;
+pub mod laws;
 mod name;
 mod pass;
 mod reply;

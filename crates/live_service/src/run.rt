@@ -202,7 +202,8 @@ fn parted(
 /// ends with the journal. It waits for all clients.
 ///
 /// `NoMemory` where there is none for the service, a call or its answer; each client stops at its first call that finds
-/// none. The plan has 1 to 16 clients and fewer than 2^32 calls, each of one of the clients, as every plan has that is read.
+/// none. The plan has 1 to 16 clients and fewer than 2^32 calls, each of one of the clients. Of a plan that was read all but
+/// the number of calls is known by `laws::plans_can_be_run`.
 pub fn run_live<R: Threads + Wait + Sync, G: Gate + Sync>(
     rt: &R,
     alloc: Global,
