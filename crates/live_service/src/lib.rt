@@ -17,8 +17,6 @@ mod pass;
 mod reply;
 mod run;
 mod service;
-#[cfg(test)]
-mod tests;
 
 pub use calls::{CallAnswers, LiveAnswer};
 pub use command::TryStop;
