@@ -1,21 +1,18 @@
 -- How the ends of the program follow from those of its parts, and that a served call is done.
-use Rattle.std.proofs.Common.{◌≡◌, ℕ, ◌≤◌, ◌⊎◌, inl, inr, List, ◌++◌, [], ◌∷◌, length, get_or, refl, sym, ap, ◌∙◌, subst, arith}
-use Rattle.std.specs.Prelude.{codes, Option, None, Some}
+use Rattle.std.proofs.Common.{◌≡◌, ℕ, ◌⊎◌, inl, inr, List, [], ◌∷◌, get_or, refl, sym, ap, ◌∙◌, subst, arith}
+use Rattle.std.specs.Prelude.{codes, Some}
 use Rattle.std.specs.Fmt.{decimal}
-use Rattle.std.specs.Io.KnownBytes.{Consumes, IsAtEnd}
-use Rattle.std.proofs.lemmas.List.{length-append, append-nil}
+use Rattle.std.specs.Io.KnownBytes.{Consumes}
 use Rattle.kr_text.specs.Causes.{Rose}
-use Rattle.kr_text.specs.Reads.{GaveAll, GaveSome}
 use Rattle.script_lang.specs.Script.{Parses}
 use Rattle.script_lang.specs.Laws.{BadLinesAreInNoScript}
 use Rattle.kronos_runs.specs.declared.exit.Exit.{Exit}
 use Rattle.kronos_runs.specs.declared.exit.Exit.TheVariants.{Done, Usage, BadLine, TooLong, ReadFault, WriteFault, NoMemory, Cyclic}
 use Rattle.kronos_runs.specs.EndsOn.{EndsOnBytes}
 use Rattle.kronos_runs.specs.Logs.{EndsOnLog}
-use Rattle.kronos_driver.specs.Ends.{Outside, AskForScript, AskForLoad, HasRead, Ends, IsLoadServed, FailedToWrite, HasBadLine, IsTooLong, IsServed, input_limit, AskForImport, AskToRead, HasReadLog, IsImportServed}
-
-some_of_all : (left left' : Option (List ℕ)) (bytes : List ℕ) → GaveAll input_limit left left' bytes → GaveSome input_limit left left'
-some_of_all left left' bytes all = record { bytes = bytes; taken = all.taken; fits = all.fits }
+use Rattle.kronos_runs.specs.Outside.{Outside}
+use Rattle.kronos_runs.proofs.OutsideLemmas.{some_of_all, all_given, not_too_long}
+use Rattle.kronos_driver.specs.Ends.{AskForScript, AskForLoad, HasRead, Ends, IsLoadServed, FailedToWrite, HasBadLine, IsServed, AskForImport, AskToRead, HasReadLog}
 
 -- an end after the whole input was read
 pub ends_on_bytes : (exit : Exit) (words : List (List ℕ)) (before after : Outside) (bytes : List ℕ) → HasRead words before after bytes → EndsOnBytes exit bytes before.held after.held before.writes after.writes → Ends exit words before after
@@ -65,34 +62,12 @@ ends_on_log NoMemory words before after bytes read lacks =
 ends_on_log (Cyclic n) words before after bytes read closes =
     record { bytes = bytes; text = closes.0; read = read; closes = closes.1; written = closes.2; calm = closes.3 }
 
--- a source that is read to its end gave all that it had
-all_given : (input : List ℕ) (left' : Option (List ℕ)) (bytes : List ℕ) → Consumes (Some input) left' bytes → IsAtEnd left' → input ≡ bytes
-all_given input None bytes taken ended = absurd taken
-all_given input (Some rest) bytes taken ended = taken ∙ ap (λ r. bytes ++ r) ended ∙ append-nil bytes
-
--- a source gives no more than it had
-no_more_given : (input : List ℕ) (left' : Option (List ℕ)) (bytes : List ℕ) → Consumes (Some input) left' bytes → length bytes ≤ length input
-no_more_given input None bytes taken = absurd taken
-no_more_given input (Some rest) bytes taken = omega (arith, ap length taken, length-append bytes rest)
-
--- so it is what was told of it
-pub whole_given : (input bytes : List ℕ) (left left' : Option (List ℕ)) → left ≡ Some input → GaveAll input_limit left left' bytes → input ≡ bytes
-whole_given input bytes left left' told whole =
-    all_given input left' bytes (subst (λ l. Consumes l left' bytes) told whole.taken) whole.ended
-
 no_bad_line : BadLinesAreInNoScript → (n : ℕ) (words : List (List ℕ)) (before after : Outside) → IsServed words before after → HasBadLine n words before after → ⊥
 no_bad_line law n words before after served bad =
     let whole = bad.read.whole in
     let taken : Consumes (Some served.bytes) after.left bad.bytes = subst (λ l. Consumes l after.left bad.bytes) served.told whole.taken in
     let same : served.bytes ≡ bad.bytes = all_given served.bytes after.left bad.bytes taken whole.ended in
     law bad.bytes n served.script bad.refused.bad (subst (λ bs. Parses bs served.script) same served.parses)
-
--- an input within the limit is not too long
-pub not_too_long : (input : List ℕ) (words : List (List ℕ)) (before after : Outside) → before.left ≡ Some input → length input ≤ input_limit → IsTooLong words before after → ⊥
-not_too_long input words before after told fits long =
-    let taken : Consumes (Some input) after.left long.over.bytes = subst (λ l. Consumes l after.left long.over.bytes) told long.over.taken in
-    let over = long.over.over in
-    absurd (omega (arith, no_more_given input after.left long.over.bytes taken))
 
 -- where the sink counts no fault, no write of a script's run failed
 pub no_fault : (words : List (List ℕ)) (before after : Outside) → (Rose before.writes after.writes → ⊥) → FailedToWrite words before after → ⊥
@@ -135,7 +110,7 @@ served_is_done law Usage words before after ends served = absurd (ends.none.no_f
 served_is_done law (BadLine n) words before after ends served =
     absurd (elim ends [ inl bad ↦ no_bad_line law n words before after served bad | inr log ↦ not_a_log words served.form log.read.form ])
 served_is_done law TooLong words before after ends served =
-    absurd (not_too_long served.bytes words before after served.told served.fits ends)
+    absurd (not_too_long served.bytes (AskToRead words) before after served.told served.fits ends)
 served_is_done law (Cyclic n) words before after ends served = absurd (not_a_log words served.form ends.read.form)
 served_is_done law ReadFault words before after ends served = absurd (served.read ends.rose)
 served_is_done law WriteFault words before after ends served =

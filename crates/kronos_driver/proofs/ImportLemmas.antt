@@ -1,13 +1,15 @@
 -- How an import that is served ends.
-use Rattle.std.proofs.Common.{◌≡◌, ℕ, ◌⊎◌, inl, inr, List, refl, sym, ap, subst}
+use Rattle.std.proofs.Common.{◌≡◌, ℕ, inl, inr, List, refl, sym, ap, subst}
 use Rattle.clock_import.specs.Reading.{IsBadLine}
 use Rattle.clock_import.specs.Imported.{IsCyclicAt}
 use Rattle.clock_import.specs.Text.{IsTextOf}
 use Rattle.clock_import.specs.Laws.{BadLinesAreInNoLog, TheBadLineIsOne, TheCyclicLineIsOne, CyclesAreInNoImport}
 use Rattle.kronos_runs.specs.declared.exit.Exit.{Exit}
 use Rattle.kronos_runs.specs.declared.exit.Exit.TheVariants.{Done, Usage, BadLine, TooLong, ReadFault, WriteFault, NoMemory, Cyclic}
-use Rattle.kronos_driver.specs.Ends.{Outside, Ends, IsImportServed, IsImportEnd, EndsAsImport}
-use Rattle.kronos_driver.proofs.EndsLemmas.{whole_given, not_too_long, no_write_failed, not_a_log, no_load}
+use Rattle.kronos_runs.specs.Outside.{Outside}
+use Rattle.kronos_runs.proofs.OutsideLemmas.{whole_given, not_too_long}
+use Rattle.kronos_driver.specs.Ends.{AskToRead, Ends, IsImportEnd, EndsAsImport}
+use Rattle.kronos_driver.proofs.EndsLemmas.{no_write_failed, not_a_log, no_load}
 
 -- bytes spell at most one log, which has at most one first cycle; or they have one first bad line
 pub record LogsAreOne : Type 0 where
@@ -71,7 +73,7 @@ import_is_done laws (BadLine n) words before after ends served due is =
           inl (bad_end laws served.bytes n due (subst (λ bs. IsBadLine bs n) (sym same) log.refused.bad) is)
     ]
 import_is_done laws TooLong words before after ends served due is =
-    absurd (not_too_long served.bytes words before after served.told served.fits ends)
+    absurd (not_too_long served.bytes (AskToRead words) before after served.told served.fits ends)
 import_is_done laws ReadFault words before after ends served due is = absurd (served.read ends.rose)
 import_is_done laws WriteFault words before after ends served due is =
     absurd (no_write_failed words before after served.written ends)

@@ -1,12 +1,11 @@
 -- What each end of the program says: what was read, what was written, and why it came.
-use Rattle.std.specs.Prelude.{◌≡◌, ℕ, ◌<◌, ◌≤◌, ◌⊎◌, List, [], ◌∷◌, ◌++◌, length, take, codes, Option, Some}
+use Rattle.std.specs.Prelude.{◌≡◌, ℕ, ◌≤◌, ◌⊎◌, List, [], ◌∷◌, length, codes, Some}
 use Rattle.std.specs.Fmt.{decimal}
 use Rattle.std.specs.Io.KnownBytes.{Appends, Keeps}
 use Rattle.kr_text.specs.Causes.{Rose}
-use Rattle.kr_text.specs.Reads.{GaveAll, GaveSome, GaveTooMany}
+use Rattle.kr_text.specs.Reads.{GaveAll, GaveSome}
 use Rattle.kr_text.specs.Writes.{TookBeforeFault}
 use Rattle.script_lang.specs.declared.script.Script.{Script}
-use Rattle.script_lang.specs.Line.{line}
 use Rattle.script_lang.specs.Number.{IsFromOneTo}
 use Rattle.script_lang.specs.Script.{Parses}
 use Rattle.load_gen.specs.Summary.{load_text}
@@ -16,15 +15,8 @@ use Rattle.clock_import.specs.Text.{IsTextOf}
 use Rattle.kronos_runs.specs.declared.exit.Exit.{Exit}
 use Rattle.kronos_runs.specs.declared.exit.Exit.TheVariants.{Done, Usage, BadLine, TooLong, ReadFault, WriteFault, NoMemory, Cyclic}
 use Rattle.kronos_runs.specs.Due.{IsRunOf, IsRefusalOf, IsDueFor, TookFront}
+use Rattle.kronos_runs.specs.Outside.{Outside, IsFaultless, IsNoForm, HasUsage, IsTooLong, FailedToRead, input_limit, usage_line}
 use Rattle.kronos_runs.specs.Logs.{IsBadLogOf, IsCycleOf, IsDueForLog}
-
--- what is seen outside at a moment: the bytes that the source has left and that the sink holds, where they tell them,
--- and how many faults each has counted
-pub record Outside : Type 0 where
-  pub left : Option (List ℕ)
-  pub reads : ℕ
-  pub held : Option (List ℕ)
-  pub writes : ℕ
 
 -- the words ask for the run of a script
 abbrev pub AskForScript : List (List ℕ) → Type 0
@@ -47,17 +39,6 @@ AskToRead words = AskForScript words ⊎ AskForImport words
 abbrev pub IsForm : List (List ℕ) → Type 0
 IsForm words = AskForScript words ⊎ (((rounds : ℕ) × AskForLoad rounds words) ⊎ AskForImport words)
 
-abbrev pub input_limit : ℕ
-input_limit = 1048576
-
-abbrev pub usage_line : List ℕ
-usage_line = line (codes "usage: kronos script, load N, live, audit, import, chain")
-
--- no read and no write failed
-pub record IsFaultless (before after : Outside) : Type 0 where
-  pub reads : after.reads ≡ before.reads
-  pub writes : after.writes ≡ before.writes
-
 -- the words ask for the run of a script, and these bytes are the whole input
 pub record HasRead (words : List (List ℕ)) (before after : Outside) (bytes : List ℕ) : Type 0 where
   pub form : AskForScript words
@@ -73,18 +54,6 @@ pub record HasRun (words : List (List ℕ)) (before after : Outside) : Type 0 wh
   pub written : Appends before.held after.held text
   pub calm : after.writes ≡ before.writes
 
--- the words are no form, and nothing was read
-pub record IsNoForm (words : List (List ℕ)) (before after : Outside) : Type 0 where
-  pub no_form : IsForm words → ⊥
-  pub unread : Keeps before.left after.left
-  pub calm : after.reads ≡ before.reads
-
--- Usage: the words are no form, nothing was read, and the usage line was written.
-pub record HasUsage (words : List (List ℕ)) (before after : Outside) : Type 0 where
-  pub none : IsNoForm words before after
-  pub written : Appends before.held after.held usage_line
-  pub calm : after.writes ≡ before.writes
-
 -- BadLine: the whole input was read, line n is the first that is in no script, and a line that says so was written.
 pub record HasBadLine (n : ℕ) (words : List (List ℕ)) (before after : Outside) : Type 0 where
   pub bytes : List ℕ
@@ -92,21 +61,6 @@ pub record HasBadLine (n : ℕ) (words : List (List ℕ)) (before after : Outsid
   pub read : HasRead words before after bytes
   pub refused : IsRefusalOf bytes n text
   pub written : Appends before.held after.held text
-  pub calm : after.writes ≡ before.writes
-
--- TooLong: the source gave a byte past the limit, and nothing was written.
-pub record IsTooLong (words : List (List ℕ)) (before after : Outside) : Type 0 where
-  pub form : AskToRead words
-  pub over : GaveTooMany input_limit before.left after.left
-  pub unwritten : Keeps before.held after.held
-  pub calm : IsFaultless before after
-
--- ReadFault: the source counted a fault, and nothing was written.
-pub record FailedToRead (words : List (List ℕ)) (before after : Outside) : Type 0 where
-  pub form : AskToRead words
-  pub given : GaveSome input_limit before.left after.left
-  pub rose : Rose before.reads after.reads
-  pub unwritten : Keeps before.held after.held
   pub calm : after.writes ≡ before.writes
 
 -- the text that was due after what was read
@@ -119,7 +73,7 @@ pub record HadToWrite (words : List (List ℕ)) (before after : Outside) (text :
 -- line where the words are no form, and nothing was read then.
 abbrev pub FailedToWrite : List (List ℕ) → Outside → Outside → Type 0
 FailedToWrite words before after =
-    (IsNoForm words before after × TookBeforeFault usage_line before.held after.held before.writes after.writes)
+    (IsNoForm (IsForm words) before after × TookBeforeFault usage_line before.held after.held before.writes after.writes)
     ⊎ ((text : List ℕ) × HadToWrite words before after text × TookBeforeFault text before.held after.held before.writes after.writes)
 
 -- NoMemory: the words ask for the run of a script, and no read and no write failed. Nothing was written, or the whole input was read and
@@ -216,10 +170,10 @@ pub record LacksMemoryForLog (words : List (List ℕ)) (before after : Outside) 
 -- what the end of the program says of its words, and of what was seen outside before and afterwards
 abbrev pub Ends : Exit → List (List ℕ) → Outside → Outside → Type 0
 Ends Done words before after = HasRun words before after ⊎ (HasLoaded words before after ⊎ HasImported words before after)
-Ends Usage words before after = HasUsage words before after
+Ends Usage words before after = HasUsage (IsForm words) before after
 Ends (BadLine n) words before after = HasBadLine n words before after ⊎ HasBadLogLine n words before after
-Ends TooLong words before after = IsTooLong words before after
-Ends ReadFault words before after = FailedToRead words before after
+Ends TooLong words before after = IsTooLong (AskToRead words) before after
+Ends ReadFault words before after = FailedToRead (AskToRead words) before after
 Ends WriteFault words before after =
     FailedToWrite words before after ⊎ (FailedToWriteLoad words before after ⊎ FailedToWriteLog words before after)
 Ends NoMemory words before after =

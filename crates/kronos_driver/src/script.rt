@@ -5,17 +5,11 @@ ghost use Rattle.std.specs.Rc.{rc_str_bytes};
 ghost use Rattle.kronos_driver.specs.Ends.{Ends, AskForScript, AskForImport, IsServed, IsLoadServed, EndsAsImport};
 
 use crate::form::{Form, form_of};
-use kr_text::{ReadStop, Sink, Source, WriteStop, read_all, write_all};
-use kronos_runs::{Exit, run_import, run_load, run_script};
+use kr_text::{Sink, Source};
+use kronos_runs::{Exit, read_input, run_import, run_load, run_script, say_usage};
 use std::alloc::Global;
 use std::rc::RcStr;
 use std::thread::Threads;
-
-// The greatest number of bytes of an input.
-const INPUT_LIMIT: usize = 1_048_576;
-
-// What is written where the words are no form.
-const USAGE: &[u8] = b"usage: kronos script, load N, live, audit, import, chain\n";
 
 /// Runs the program: with the word `script` it reads the whole source as a script, of at most 1,048,576 bytes,
 /// runs it step by step, and writes its transcript; with the word `import` it reads the source, no longer, as a log of
@@ -69,10 +63,7 @@ fn run_words<R: Threads + Sync, S: Source, K: Sink>(
         Some(Form::Script) => run_input(rt, alloc, source, sink),
         Some(Form::Load(rounds)) => run_load(rt, alloc, rounds, sink),
         Some(Form::Import) => import_input(alloc, source, sink),
-        None => match write_all(sink, USAGE) {
-            Ok(()) => Exit::Usage,
-            Err(WriteStop::Fault) => Exit::WriteFault,
-        },
+        None => say_usage(sink),
     }
 }
 
@@ -87,13 +78,10 @@ fn run_input<R: Threads + Sync, S: Source, K: Sink>(
         (record { left = S.left source.old; reads = S.faults source.old; held = K.held sink.old; writes = K.faults sink.old })
         (record { left = S.left source.new; reads = S.faults source.new; held = K.held sink.new; writes = K.faults sink.new }) }
 {
-    let bytes = match read_all(alloc, source, INPUT_LIMIT) {
-        Ok(bytes) => bytes,
-        Err(ReadStop::Fault) => return Exit::ReadFault,
-        Err(ReadStop::TooLong) => return Exit::TooLong,
-        Err(ReadStop::NoMemory) => return Exit::NoMemory,
-    };
-    run_script(rt, alloc, bytes.as_slice(), sink)
+    match read_input(alloc, source) {
+        Ok(bytes) => run_script(rt, alloc, bytes.as_slice(), sink),
+        Err(exit) => exit,
+    }
 }
 
 // Reads the whole input and imports it.
@@ -102,11 +90,8 @@ fn import_input<S: Source, K: Sink>(alloc: Global, source: &mut S, sink: &mut K)
         (record { left = S.left source.old; reads = S.faults source.old; held = K.held sink.old; writes = K.faults sink.old })
         (record { left = S.left source.new; reads = S.faults source.new; held = K.held sink.new; writes = K.faults sink.new }) }
 {
-    let bytes = match read_all(alloc, source, INPUT_LIMIT) {
-        Ok(bytes) => bytes,
-        Err(ReadStop::Fault) => return Exit::ReadFault,
-        Err(ReadStop::TooLong) => return Exit::TooLong,
-        Err(ReadStop::NoMemory) => return Exit::NoMemory,
-    };
-    run_import(alloc, bytes.as_slice(), sink)
+    match read_input(alloc, source) {
+        Ok(bytes) => run_import(alloc, bytes.as_slice(), sink),
+        Err(exit) => exit,
+    }
 }

@@ -6,7 +6,8 @@ ghost use Rattle.script_lang.specs.declared.script.Script.{Script as ScriptRead}
 ghost use Rattle.script_lang.specs.Number.{IsFromOneTo};
 ghost use Rattle.script_lang.specs.Script.{Parses};
 ghost use Rattle.kronos_runs.specs.declared.exit.Exit.{Exit as ExitOf};
-ghost use Rattle.kronos_driver.specs.Ends.{AskForScript, AskForLoad, AskForImport, IsImportEnd, input_limit};
+ghost use Rattle.kronos_runs.specs.Outside.{input_limit};
+ghost use Rattle.kronos_driver.specs.Ends.{AskForScript, AskForLoad, AskForImport, IsImportEnd};
 
 use crate::script::kronos_script;
 use kr_text::{NoFaultSink, NoFaultSource};

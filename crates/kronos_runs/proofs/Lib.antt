@@ -1,3 +1,4 @@
+pub mod OutsideLemmas
 mod RunLemmas
 mod LoadLemmas
 mod ScriptLemmas

@@ -1,4 +1,5 @@
 pub mod Exits
+pub mod Outside
 pub mod Due
 pub mod EndsOn
 pub mod Runs
