@@ -1,0 +1,4 @@
+mod PlanLemmas
+mod SureLemmas
+mod TextLemmas
+mod EndsLemmas

@@ -1,0 +1,4 @@
+pub mod Text
+pub mod Forms
+pub mod Due
+pub mod Ends
