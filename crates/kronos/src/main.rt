@@ -1,16 +1,18 @@
-//! The program: it reads a script, runs it, and prints its transcript; it reads a log of processes, and prints its events,
-//! clocks and pairs; or it runs a made load, and prints its summary.
+//! The program: it reads a script, runs it, and prints its transcript; it reads the calls of many clients, makes those of
+//! each on a thread of its own, and prints what they were told and the history; it reads a log of processes, and prints its
+//! events, clocks and pairs; or it runs a made load, and prints its summary.
 //!
-//! All that the program does is `kronos_script`, whose contract says for each of its ends what was read, what
-//! was written, and why it came.
+//! All that the program does is `kronos_live` where its first word is `live`, and `kronos_script` where it is not: their
+//! contracts say for each of their ends what was read, what was written, and why it came.
 #![tactic(auto)]
 
 ghost use Rattle.std.specs.Prelude.{◌≡◌, map, drop, option_map, string_bytes, IfOk};
 ghost use Rattle.std.specs.Rc.{rc_str_bytes};
 ghost use Rattle.kronos.specs.Complaints.{complaint_of};
 
-use kr_text::{StdSink, StdSource};
+use kr_text::{OpenGate, StdSink, StdSource};
 use kronos_driver::{Exit, kronos_script};
+use live_driver::kronos_live;
 use std::alloc::{AllocError, Global};
 use std::env::Env;
 use std::process::ExitCode;
@@ -62,7 +64,12 @@ fn main(rt: HostRuntime) -> ExitCode {
     let mut source = StdSource::new(rt.reader());
     let mut sink = StdSink::new(io::writer(&rt));
     let exit = match words(&rt) {
-        Ok(words) => kronos_script(&rt, rt.alloc(), &words, &mut source, &mut sink),
+        Ok(words) => match words.first() {
+            Some(word) if word.as_str() == "live" => {
+                kronos_live(&rt, rt.alloc(), &words, &mut source, &mut sink, &OpenGate)
+            }
+            _ => kronos_script(&rt, rt.alloc(), &words, &mut source, &mut sink),
+        },
         Err(exit) => exit,
     };
     if let Some(text) = complaint(exit) {
