@@ -1,5 +1,5 @@
 -- What the decoders answer, and the laws of spellings.
-use Rattle.std.proofs.Common.{◌≡◌, ℕ, ◌+◌, ◌-◌, ◌≤◌, cond, eqb, List, [], ◌++◌, length, take, drop, Ok, Err, refl, sym, ap, subst, ◌∙◌, append_assoc, arith, inl, inr}
+use Rattle.std.proofs.Common.{◌≡◌, ℕ, ◌+◌, ◌-◌, ◌≤◌, Bool, true, Result, cond, eqb, List, [], ◌++◌, length, take, drop, Ok, Err, refl, sym, ap, subst, ◌∙◌, append_assoc, arith, inl, inr}
 use Rattle.std.proofs.lemmas.Bool.{eqb-true}
 use Rattle.std.proofs.lemmas.List.{append-nil, nil_from_length, drop_at, take-append-drop, length-append}
 use Rattle.kr_order.specs.declared.message.Packet.{Packet}
@@ -10,7 +10,7 @@ use Rattle.kr_wire.specs.declared.stop.WireError.TheVariants.{Refused, NoMemory}
 use Rattle.kr_wire.specs.Valid.{IsPacket}
 use Rattle.kr_wire.specs.Spelling.{spelling}
 use Rattle.kr_wire.specs.Reading.{Read, Fails, packet_at, packet_in}
-use Rattle.kr_wire.specs.Decoding.{Decodes, IsDecoded, ReadsAt, Refuses}
+use Rattle.kr_wire.specs.Decoding.{Decodes, IsDecoded, ReadsAt, RefusesAt, LacksOnly, Refuses}
 use Rattle.kr_wire.proofs.FieldLemmas.{IsBytes, IsBytes-drop, IsRead, bind_ok, test_ok}
 use Rattle.kr_wire.proofs.PacketLemmas.{packet_read}
 
@@ -40,20 +40,20 @@ decoded bytes packet read other fit is =
     inl (ap (λ p. Ok p) same)
 
 -- bytes that are not read spell no packet
-pub refused : (bytes : List ℕ) (e : FieldError) (error : WireError) → Fails e (packet_in bytes) → Refuses e error → Decodes bytes (Err error)
-refused bytes (stop.Broken left) (Refused at) fails refuses = λ packet fit is.
+pub refused : (taken : Bool) (size : ℕ) (bytes : List ℕ) (e : FieldError) (error : WireError) → Fails taken e (packet_in bytes) → Refuses size e error → Decodes bytes (Err error)
+refused taken size bytes (stop.Broken left) (Refused at) fails refuses = λ packet fit is.
     let again : packet_in bytes ≡ Ok packet = ap packet_in is ∙ packet_in_again packet fit in
     absurd cc
-refused bytes (stop.Broken left) NoMemory fails refuses = tt
-refused bytes stop.NoMemory (Refused at) fails refuses = absurd cc
-refused bytes stop.NoMemory NoMemory fails refuses = tt
+refused taken size bytes (stop.Broken left) NoMemory fails refuses = tt
+refused taken size bytes stop.NoMemory (Refused at) fails refuses = absurd cc
+refused taken size bytes stop.NoMemory NoMemory fails refuses = tt
 
 -- the same, where they spell one
-pub refused_none : (bytes : List ℕ) (e : FieldError) (error : WireError) → Fails e (packet_in bytes) → Refuses e error → IsDecoded bytes (Err error)
-refused_none bytes (stop.Broken left) error fails refuses = λ packet fit is.
+pub refused_none : (taken : Bool) (size : ℕ) (bytes : List ℕ) (e : FieldError) (error : WireError) → Fails taken e (packet_in bytes) → Refuses size e error → IsDecoded bytes (Err error)
+refused_none taken size bytes (stop.Broken left) error fails refuses = λ packet fit is.
     let again : packet_in bytes ≡ Ok packet = ap packet_in is ∙ packet_in_again packet fit in
     absurd cc
-refused_none bytes stop.NoMemory error fails refuses = λ packet fit is. inr (ap (λ e. Err e) refuses)
+refused_none taken size bytes stop.NoMemory error fails refuses = λ packet fit is. inr (ap (λ e. Err e) refuses)
 
 -- what is read from a place on, and the place after it
 pub read_at : {item : Type 0} (reader : List ℕ → Read item) (text : item → List ℕ) (Fits : item → Type 0) → IsRead reader text Fits → (bytes : List ℕ) (at : ℕ) (x : item) (rest : List ℕ) → at ≤ length bytes → IsBytes bytes → reader (drop at bytes) ≡ Ok (x, rest) → ReadsAt text Fits bytes at (Ok (x, length bytes - length rest))
@@ -65,10 +65,30 @@ read_at reader text Fits reads bytes at x rest within fits e =
     (t.fit, t.parts ∙ ap (λ r. text x ++ r) (sym behind), omega arith)
 
 -- what is not read is not spelt there
-pub not_read_at : {item : Type 0} (reader : List ℕ → Read item) (text : item → List ℕ) (Fits : item → Type 0) → IsRead reader text Fits → (bytes : List ℕ) (at : ℕ) (e : FieldError) (error : WireError) → Fails e (reader (drop at bytes)) → Refuses e error → ReadsAt text Fits bytes at (Err error)
-not_read_at reader text Fits reads bytes at (stop.Broken left) (Refused place) fails refuses = λ x rest fit is.
+pub not_read_at : {item : Type 0} (taken : Bool) (size : ℕ) (reader : List ℕ → Read item) (text : item → List ℕ) (Fits : item → Type 0) → IsRead reader text Fits → (bytes : List ℕ) (at : ℕ) (e : FieldError) (error : WireError) → Fails taken e (reader (drop at bytes)) → Refuses size e error → ReadsAt text Fits bytes at (Err error)
+not_read_at taken size reader text Fits reads bytes at (stop.Broken left) (Refused place) fails refuses = λ x rest fit is.
     let again : reader (drop at bytes) ≡ Ok (x, rest) = ap reader is ∙ reads.again x rest fit in
     absurd cc
-not_read_at reader text Fits reads bytes at (stop.Broken left) NoMemory fails refuses = tt
-not_read_at reader text Fits reads bytes at stop.NoMemory (Refused place) fails refuses = absurd cc
-not_read_at reader text Fits reads bytes at stop.NoMemory NoMemory fails refuses = tt
+not_read_at taken size reader text Fits reads bytes at (stop.Broken left) NoMemory fails refuses = tt
+not_read_at taken size reader text Fits reads bytes at stop.NoMemory (Refused place) fails refuses = absurd cc
+not_read_at taken size reader text Fits reads bytes at stop.NoMemory NoMemory fails refuses = tt
+
+-- what is read is refused nowhere
+pub refused_nowhere : {item other : Type 0} (size : ℕ) (read : Result other ℕ) (x : item) (y : other) → read ≡ Ok y → RefusesAt size read (Ok x)
+refused_nowhere size read x y e left broken = absurd cc
+
+-- what is not read is refused at its place
+pub refused_at : {other : Type 0} (item : Type 0) (taken : Bool) (size : ℕ) (read : Result other ℕ) (e : FieldError) (error : WireError) → Fails taken e read → Refuses size e error → RefusesAt {item = item} size read (Err error)
+refused_at item taken size read (stop.Broken left) (Refused at) fails refuses = (left, fails, refuses)
+refused_at item taken size read (stop.Broken left) NoMemory fails refuses = tt
+refused_at item taken size read stop.NoMemory (Refused at) fails refuses = absurd cc
+refused_at item taken size read stop.NoMemory NoMemory fails refuses = tt
+
+-- and where there is no memory for it, some was taken
+pub lacks_only : {other : Type 0} (item : Type 0) (taken : Bool) (size : ℕ) (read : Result other ℕ) (e : FieldError) (error : WireError) → Fails taken e read → Refuses size e error → LacksOnly {item = item} taken (Err error)
+lacks_only item taken size read (stop.Broken left) (Refused at) fails refuses is = absurd cc
+lacks_only item taken size read (stop.Broken left) NoMemory fails refuses is = absurd refuses
+lacks_only item taken size read stop.NoMemory error fails refuses is = fails
+
+pub lacks_nothing : {item : Type 0} (taken : Bool) (x : item) → LacksOnly taken (Ok x)
+lacks_nothing taken x is = absurd cc

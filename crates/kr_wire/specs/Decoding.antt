@@ -1,5 +1,5 @@
 -- What the decoders answer of bytes.
-use Rattle.std.specs.Prelude.{◌≡◌, ◌≢◌, ◌≤◌, ◌⊎◌, ℕ, List, ◌++◌, length, drop, Option, Some, Result, Ok, Err}
+use Rattle.std.specs.Prelude.{◌≡◌, ◌≢◌, ◌≤◌, ◌-◌, ◌⊎◌, ℕ, Bool, true, List, ◌++◌, length, drop, Option, Some, Result, Ok, Err}
 use Rattle.kr_order.specs.declared.message.Node.{Node}
 use Rattle.kr_order.specs.declared.message.Packet.{Packet}
 use Rattle.kr_wire.specs.declared.stop.FieldError.{FieldError}
@@ -37,8 +37,20 @@ ReadsAt {item = item} text Fits bytes at (Err (Refused place)) =
     (one : item) (rest : List ℕ) → Fits one → drop at bytes ≢ text one ++ rest
 ReadsAt text Fits bytes at (Err NoMemory) = Unit {0}
 
--- bytes whose field is broken are refused
-abbrev pub Refuses : FieldError → WireError → Type 0
-Refuses (stop.Broken left) (Refused at) = Unit {0}
-Refuses (stop.Broken left) NoMemory = ⊥
-Refuses stop.NoMemory error = error ≡ NoMemory
+-- bytes are refused exactly where the reader does not read them, and at the place, in so many bytes, of the first of
+-- those that it leaves: of the first byte of the first field that is cut short or holds a value that is not allowed, or
+-- of the first byte behind the last field
+abbrev pub RefusesAt : {item other : Type 0} → ℕ → Result other ℕ → Result item WireError → Type 0
+RefusesAt size read (Ok x) = (left : ℕ) → read ≢ Err left
+RefusesAt size read (Err (Refused at)) = (left : ℕ) × (read ≡ Err left) × (at ≡ size - left)
+RefusesAt size read (Err NoMemory) = Unit {0}
+
+-- there is no memory only where some is taken
+abbrev pub LacksOnly : {item : Type 0} → Bool → Result item WireError → Type 0
+LacksOnly taken result = result ≡ Err NoMemory → taken ≡ true
+
+-- so many bytes, a field of which is broken, are refused there
+abbrev pub Refuses : ℕ → FieldError → WireError → Type 0
+Refuses size (stop.Broken left) (Refused at) = at ≡ size - left
+Refuses size (stop.Broken left) NoMemory = ⊥
+Refuses size stop.NoMemory error = error ≡ NoMemory

@@ -1,6 +1,6 @@
 -- Reading a packet from the left. A reader answers a value and the bytes after it. Else it answers how many bytes
 -- are left from the first field on that is cut short or holds a value that is not allowed.
-use Rattle.std.specs.Prelude.{◌≡◌, ℕ, zero, suc, ◌+◌, ◌==◌, nat_lt, if◌then◌else◌, List, [], ◌∷◌, length, take, drop, Option, None, Some}
+use Rattle.std.specs.Prelude.{◌≡◌, ℕ, zero, suc, ◌+◌, ◌==◌, nat_lt, Bool, true, if◌then◌else◌, List, [], ◌∷◌, length, take, drop, Option, None, Some}
 use Rattle.std.specs.Prelude.{Result, Ok, Err}
 use Rattle.std.specs.Int.{Width, w32, w64, byte_len, from_be_bytes}
 use Rattle.kr_order.specs.declared.ids.EventId.{EventId}
@@ -40,14 +40,14 @@ abbrev pub ◌>>=◌ : {item other : Type 0} → Result item ℕ → (item → R
 (Ok x) >>= f = f x
 (Err left) >>= f = Err left
 
--- what the code answers is what the reader answers, unless memory ran out
-abbrev pub Fails : {item : Type 0} → FieldError → Result item ℕ → Type 0
-Fails stop.NoMemory read = Unit {0}
-Fails (stop.Broken left) read = read ≡ Err left
+-- what the code answers is what the reader answers, unless memory ran out; and it runs out only where it is taken
+abbrev pub Fails : {item : Type 0} → Bool → FieldError → Result item ℕ → Type 0
+Fails taken stop.NoMemory read = taken ≡ true
+Fails taken (stop.Broken left) read = read ≡ Err left
 
-abbrev pub Gives : {item other : Type 0} → (item → other) → Result item FieldError → Result other ℕ → Type 0
-Gives view (Ok x) read = read ≡ Ok (view x)
-Gives view (Err e) read = Fails e read
+abbrev pub Gives : {item other : Type 0} → Bool → (item → other) → Result item FieldError → Result other ℕ → Type 0
+Gives taken view (Ok x) read = read ≡ Ok (view x)
+Gives taken view (Err e) read = Fails taken e read
 
 -- a value, and behind it another that may depend on it
 abbrev pub followed : {item other : Type 0} → (List ℕ → Read item) → (item → List ℕ → Read other) → List ℕ → Read (item × other)

@@ -2,6 +2,7 @@
 
 ghost use Rattle.std.specs.Prelude.{◌≡◌, ◌++◌, OnOk};
 ghost use Rattle.kr_wire.specs.Reading.{Gives, kind_of, command_by, command_at};
+ghost use Rattle.kr_wire.specs.Taking.{command_by_takes, command_takes};
 ghost use Rattle.kr_wire.specs.Spelling.{kind_number, command_bytes};
 
 use crate::fields::{byte_in, id_above, positive, put_1, put_4, put_8};
@@ -33,10 +34,13 @@ fn kind_number(kind: Kind) -> u8
 impl Spelt for Pair {
     ghost use Rattle.kr_wire.specs.Spelling.{pair_bytes};
     ghost use Rattle.kr_wire.specs.Reading.{pair_at};
+    ghost use Rattle.kr_wire.specs.Taking.{never};
 
     ghost text = { pair_bytes };
 
     ghost reading = { pair_at };
+
+    ghost taking = { never };
 
     #[tactic(auto, unfolding(crate::specs::Reading::pair_at))]
     fn read(_alloc: Global, bytes: &[u8]) -> Result<(Self, &[u8]), FieldError> {
@@ -61,10 +65,13 @@ impl Spelt for Pair {
 impl Spelt for (EventId, EventId) {
     ghost use Rattle.kr_wire.specs.Spelling.{asked_bytes};
     ghost use Rattle.kr_wire.specs.Reading.{asked_at};
+    ghost use Rattle.kr_wire.specs.Taking.{never};
 
     ghost text = { asked_bytes };
 
     ghost reading = { asked_at };
+
+    ghost taking = { never };
 
     #[tactic(auto, unfolding(crate::specs::Reading::asked_at))]
     fn read(_alloc: Global, bytes: &[u8]) -> Result<(Self, &[u8]), FieldError> {
@@ -80,9 +87,9 @@ impl Spelt for (EventId, EventId) {
 }
 
 // The command that follows its number, from 1 to 4, and what follows it.
-#[tactic(auto, unfolding(crate::specs::Reading::command_by))]
+#[tactic(auto, unfolding(crate::specs::Reading::command_by, crate::specs::Taking::command_by_takes))]
 fn command_by(alloc: Global, number: u8, bytes: &[u8]) -> Result<(Command, &[u8]), FieldError>
-    ensures { Gives (λ read. (read.0, read.1.now)) result (command_by number bytes.now) }
+    ensures { Gives (command_by_takes number bytes.now) (λ read. (read.0, read.1.now)) result (command_by number bytes.now) }
 {
     match number {
         1 => Ok((Command::Create, bytes)),
@@ -102,9 +109,9 @@ fn command_by(alloc: Global, number: u8, bytes: &[u8]) -> Result<(Command, &[u8]
 }
 
 // The command that the front of the bytes spells, and what follows.
-#[tactic(auto, unfolding(crate::specs::Reading::command_at))]
+#[tactic(auto, unfolding(crate::specs::Reading::command_at, crate::specs::Taking::command_takes))]
 pub(crate) fn command_at(alloc: Global, bytes: &[u8]) -> Result<(Command, &[u8]), FieldError>
-    ensures { Gives (λ read. (read.0, read.1.now)) result (command_at bytes.now) }
+    ensures { Gives (command_takes bytes.now) (λ read. (read.0, read.1.now)) result (command_at bytes.now) }
 {
     let (number, rest) = byte_in(1, 4, bytes)?;
     command_by(alloc, number, rest)
@@ -134,12 +141,15 @@ pub(crate) fn put_command(out: &mut Vec<u8>, command: &Command) -> Result<(), No
 impl Spelt for Entry {
     ghost use Rattle.kr_wire.specs.Spelling.{entry_bytes};
     ghost use Rattle.kr_wire.specs.Reading.{entry_at};
+    ghost use Rattle.kr_wire.specs.Taking.{entry_takes};
 
     ghost text = { entry_bytes };
 
     ghost reading = { entry_at };
 
-    #[tactic(auto, unfolding(crate::specs::Reading::entry_at))]
+    ghost taking = { entry_takes };
+
+    #[tactic(auto, unfolding(crate::specs::Reading::entry_at, crate::specs::Taking::entry_takes))]
     fn read(alloc: Global, bytes: &[u8]) -> Result<(Self, &[u8]), FieldError> {
         let (client, rest) = id_above(0, bytes)?;
         let (seq, rest) = positive(rest)?;

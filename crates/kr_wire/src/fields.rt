@@ -1,6 +1,6 @@
 //! Numbers: each is read from the front of bytes, or put behind what is there.
 
-ghost use Rattle.std.specs.Prelude.{◌≡◌, ◌++◌, OnOk};
+ghost use Rattle.std.specs.Prelude.{◌≡◌, ◌++◌, false, OnOk};
 ghost use Rattle.std.specs.Int.{w32, w64};
 ghost use Rattle.kr_wire.specs.Spelling.{in_1, in_4, in_8};
 ghost use Rattle.kr_wire.specs.Reading.{Gives, number_at, above, byte_in};
@@ -12,7 +12,7 @@ use kr_order::NoMemory;
 // The number in the first 4 bytes, and what follows.
 #[tactic(auto, unfolding(crate::specs::Reading::number_at))]
 pub(crate) fn u32_at(bytes: &[u8]) -> Result<(u32, &[u8]), FieldError>
-    ensures { Gives (λ read. (read.0, read.1.now)) result (number_at w32 bytes.now) }
+    ensures { Gives false (λ read. (read.0, read.1.now)) result (number_at w32 bytes.now) }
 {
     if bytes.len() < 4 {
         return Err(FieldError::Broken { left: bytes.len() });
@@ -25,7 +25,7 @@ pub(crate) fn u32_at(bytes: &[u8]) -> Result<(u32, &[u8]), FieldError>
 // The number in the first 8 bytes, and what follows.
 #[tactic(auto, unfolding(crate::specs::Reading::number_at))]
 pub(crate) fn u64_at(bytes: &[u8]) -> Result<(u64, &[u8]), FieldError>
-    ensures { Gives (λ read. (read.0, read.1.now)) result (number_at w64 bytes.now) }
+    ensures { Gives false (λ read. (read.0, read.1.now)) result (number_at w64 bytes.now) }
 {
     if bytes.len() < 8 {
         return Err(FieldError::Broken { left: bytes.len() });
@@ -40,7 +40,7 @@ pub(crate) fn u64_at(bytes: &[u8]) -> Result<(u64, &[u8]), FieldError>
 // The same of 4 bytes, where the number is greater than `low`.
 #[tactic(auto, unfolding(crate::specs::Reading::above))]
 pub(crate) fn id_above(low: u32, bytes: &[u8]) -> Result<(u32, &[u8]), FieldError>
-    ensures { Gives (λ read. (read.0, read.1.now)) result (above w32 low bytes.now) }
+    ensures { Gives false (λ read. (read.0, read.1.now)) result (above w32 low bytes.now) }
 {
     let (number, rest) = u32_at(bytes)?;
     if low < number {
@@ -53,7 +53,7 @@ pub(crate) fn id_above(low: u32, bytes: &[u8]) -> Result<(u32, &[u8]), FieldErro
 // The same of 8 bytes, where the number is not 0.
 #[tactic(auto, unfolding(crate::specs::Reading::above))]
 pub(crate) fn positive(bytes: &[u8]) -> Result<(u64, &[u8]), FieldError>
-    ensures { Gives (λ read. (read.0, read.1.now)) result (above w64 0 bytes.now) }
+    ensures { Gives false (λ read. (read.0, read.1.now)) result (above w64 0 bytes.now) }
 {
     let (number, rest) = u64_at(bytes)?;
     if 0 < number {
@@ -66,7 +66,7 @@ pub(crate) fn positive(bytes: &[u8]) -> Result<(u64, &[u8]), FieldError>
 // The first byte, where it is in this range, and what follows.
 #[tactic(auto, unfolding(crate::specs::Reading::byte_in))]
 pub(crate) fn byte_in(low: u8, high: u8, bytes: &[u8]) -> Result<(u8, &[u8]), FieldError>
-    ensures { Gives (λ read. (read.0, read.1.now)) result (byte_in low high bytes.now) }
+    ensures { Gives false (λ read. (read.0, read.1.now)) result (byte_in low high bytes.now) }
 {
     match bytes {
         [] => Err(FieldError::Broken { left: 0 }),

@@ -1,8 +1,9 @@
 //! What each kind of message says.
 
-ghost use Rattle.std.specs.Prelude.{◌≡◌, ◌++◌, OnOk};
+ghost use Rattle.std.specs.Prelude.{◌≡◌, ◌++◌, false, OnOk};
 ghost use Rattle.kr_wire.specs.Valid.{IsMessage, IsPlaced, IsTold, IsView};
 ghost use Rattle.kr_wire.specs.Reading.{Gives, part_at, message_at};
+ghost use Rattle.kr_wire.specs.Taking.{message_takes};
 ghost use Rattle.kr_wire.specs.Spelling.{in_1, in_8, counted, answer_bytes, reply_bytes, view_bytes, message_number, message_fields};
 
 use crate::commands::{command_at, put_command};
@@ -18,7 +19,7 @@ use std::alloc::Global;
 // The number of a query and of its part, and what follows.
 #[tactic(auto, unfolding(crate::specs::Reading::part_at))]
 fn part_at(bytes: &[u8]) -> Result<((u64, u8), &[u8]), FieldError>
-    ensures { Gives (λ read. (read.0, read.1.now)) result (part_at bytes.now) }
+    ensures { Gives false (λ read. (read.0, read.1.now)) result (part_at bytes.now) }
 {
     let (q, rest) = positive(bytes)?;
     let (part, rest) = byte_in(1, 2, rest)?;
@@ -26,13 +27,13 @@ fn part_at(bytes: &[u8]) -> Result<((u64, u8), &[u8]), FieldError>
 }
 
 // What a message of the kind says, and what follows.
-#[tactic(auto, unfolding(crate::specs::Reading::message_at))]
+#[tactic(auto, unfolding(crate::specs::Reading::message_at, crate::specs::Taking::message_takes))]
 pub(crate) fn message_at(
     alloc: Global,
     kind: MessageKind,
     bytes: &[u8],
 ) -> Result<(Message, &[u8]), FieldError>
-    ensures { Gives (λ read. (read.0, read.1.now)) result (message_at kind bytes.now) }
+    ensures { Gives (message_takes kind bytes.now) (λ read. (read.0, read.1.now)) result (message_at kind bytes.now) }
 {
     match kind {
         MessageKind::Request => request_at(alloc, bytes),
@@ -54,45 +55,50 @@ pub(crate) fn message_at(
     }
 }
 
-#[tactic(auto, unfolding(crate::specs::Reading::message_at))]
+#[tactic(auto, unfolding(crate::specs::Reading::message_at, crate::specs::Taking::message_takes))]
 fn request_at(alloc: Global, bytes: &[u8]) -> Result<(Message, &[u8]), FieldError>
-    ensures { Gives (λ read. (read.0, read.1.now)) result (message_at MessageKind.Request bytes.now) }
+    ensures { Gives (message_takes MessageKind.Request bytes.now)
+        (λ read. (read.0, read.1.now)) result (message_at MessageKind.Request bytes.now) }
 {
     let (seq, rest) = positive(bytes)?;
     let (command, rest) = command_at(alloc, rest)?;
     Ok((Message::Request { seq, command }, rest))
 }
 
-#[tactic(auto, unfolding(crate::specs::Reading::message_at))]
+#[tactic(auto, unfolding(crate::specs::Reading::message_at, crate::specs::Taking::message_takes))]
 fn append_at(alloc: Global, bytes: &[u8]) -> Result<(Message, &[u8]), FieldError>
-    ensures { Gives (λ read. (read.0, read.1.now)) result (message_at MessageKind.Append bytes.now) }
+    ensures { Gives (message_takes MessageKind.Append bytes.now)
+        (λ read. (read.0, read.1.now)) result (message_at MessageKind.Append bytes.now) }
 {
     let (first, rest) = positive(bytes)?;
     let (entries, rest) = listed_at(alloc, 1, 16, rest)?;
     Ok((Message::Append { first, entries }, rest))
 }
 
-#[tactic(auto, unfolding(crate::specs::Reading::message_at))]
+#[tactic(auto, unfolding(crate::specs::Reading::message_at, crate::specs::Taking::message_takes))]
 fn ack_at(bytes: &[u8]) -> Result<(Message, &[u8]), FieldError>
-    ensures { Gives (λ read. (read.0, read.1.now)) result (message_at MessageKind.Ack bytes.now) }
+    ensures { Gives (message_takes MessageKind.Ack bytes.now)
+        (λ read. (read.0, read.1.now)) result (message_at MessageKind.Ack bytes.now) }
 {
     let (done, rest) = u64_at(bytes)?;
     let (len, rest) = u64_at(rest)?;
     Ok((Message::Ack { done, len }, rest))
 }
 
-#[tactic(auto, unfolding(crate::specs::Reading::message_at))]
+#[tactic(auto, unfolding(crate::specs::Reading::message_at, crate::specs::Taking::message_takes))]
 fn ask_at(alloc: Global, bytes: &[u8]) -> Result<(Message, &[u8]), FieldError>
-    ensures { Gives (λ read. (read.0, read.1.now)) result (message_at MessageKind.Ask bytes.now) }
+    ensures { Gives (message_takes MessageKind.Ask bytes.now)
+        (λ read. (read.0, read.1.now)) result (message_at MessageKind.Ask bytes.now) }
 {
     let ((q, part), rest) = part_at(bytes)?;
     let (pairs, rest) = capped_at(alloc, 1, rest)?;
     Ok((Message::Ask { q, part, pairs }, rest))
 }
 
-#[tactic(auto, unfolding(crate::specs::Reading::message_at))]
+#[tactic(auto, unfolding(crate::specs::Reading::message_at, crate::specs::Taking::message_takes))]
 fn replied_at(alloc: Global, bytes: &[u8]) -> Result<(Message, &[u8]), FieldError>
-    ensures { Gives (λ read. (read.0, read.1.now)) result (message_at MessageKind.Replied bytes.now) }
+    ensures { Gives (message_takes MessageKind.Replied bytes.now)
+        (λ read. (read.0, read.1.now)) result (message_at MessageKind.Replied bytes.now) }
 {
     let (seq, rest) = positive(bytes)?;
     let (place, rest) = positive(rest)?;
@@ -101,9 +107,10 @@ fn replied_at(alloc: Global, bytes: &[u8]) -> Result<(Message, &[u8]), FieldErro
     Ok((Message::Replied { seq, placed }, rest))
 }
 
-#[tactic(auto, unfolding(crate::specs::Reading::message_at))]
+#[tactic(auto, unfolding(crate::specs::Reading::message_at, crate::specs::Taking::message_takes))]
 fn answered_at(alloc: Global, bytes: &[u8]) -> Result<(Message, &[u8]), FieldError>
-    ensures { Gives (λ read. (read.0, read.1.now)) result (message_at MessageKind.Answered bytes.now) }
+    ensures { Gives (message_takes MessageKind.Answered bytes.now)
+        (λ read. (read.0, read.1.now)) result (message_at MessageKind.Answered bytes.now) }
 {
     let ((q, part), rest) = part_at(bytes)?;
     let (entry, rest) = u64_at(rest)?;
@@ -112,9 +119,10 @@ fn answered_at(alloc: Global, bytes: &[u8]) -> Result<(Message, &[u8]), FieldErr
     Ok((Message::Answered { q, part, told }, rest))
 }
 
-#[tactic(auto, unfolding(crate::specs::Reading::message_at))]
+#[tactic(auto, unfolding(crate::specs::Reading::message_at, crate::specs::Taking::message_takes))]
 fn refer_at(alloc: Global, bytes: &[u8]) -> Result<(Message, &[u8]), FieldError>
-    ensures { Gives (λ read. (read.0, read.1.now)) result (message_at MessageKind.Refer bytes.now) }
+    ensures { Gives (message_takes MessageKind.Refer bytes.now)
+        (λ read. (read.0, read.1.now)) result (message_at MessageKind.Refer bytes.now) }
 {
     let ((q, part), rest) = part_at(bytes)?;
     let (view, rest) = view_at(alloc, rest)?;

@@ -1,10 +1,11 @@
 //! Packets whole, and entries and replies by themselves.
 
-ghost use Rattle.std.specs.Prelude.{◌≡◌, ◌≤◌, ◌++◌, length, IfOk, OnOk, OnErr};
+ghost use Rattle.std.specs.Prelude.{◌≡◌, ◌≤◌, ◌++◌, length, drop, IfOk, OnOk, OnErr};
 ghost use Rattle.kr_wire.specs.Valid.{IsEntry, IsReply, IsPacket};
-ghost use Rattle.kr_wire.specs.Reading.{Gives, packet_by, packet_at, packet_in};
+ghost use Rattle.kr_wire.specs.Reading.{Gives, entry_at, reply_at, packet_by, packet_at, packet_in};
+ghost use Rattle.kr_wire.specs.Taking.{entry_takes, reply_takes, packet_by_takes, packet_takes};
 ghost use Rattle.kr_wire.specs.Spelling.{entry_bytes, reply_bytes, spelling};
-ghost use Rattle.kr_wire.specs.Decoding.{Decodes, IsDecoded, IsAddressee, ReadsAt, Refuses};
+ghost use Rattle.kr_wire.specs.Decoding.{Decodes, IsDecoded, IsAddressee, ReadsAt, RefusesAt, LacksOnly, Refuses};
 
 use crate::fields::{byte_in, put_1, put_4};
 use crate::items::Spelt;
@@ -31,10 +32,13 @@ pub fn encode(alloc: Global, packet: &Packet) -> Result<Vec<u8>, NoMemory>
 }
 
 /// The packet that all of these bytes spell. `Refused` comes exactly where they spell none, and says where they
-/// stop to spell one; `NoMemory` where there is no memory for the packet.
+/// stop to spell one; `NoMemory` where there is no memory for the packet, and only where the first item of a list in it
+/// was read.
 pub fn decode(alloc: Global, bytes: &[u8]) -> Result<Packet, WireError>
     ensures reads { Decodes bytes.now result }
     ensures only { IsDecoded bytes.now result }
+    ensures place { RefusesAt (length bytes.now) (packet_in bytes.now) result }
+    ensures memory { LacksOnly (packet_takes bytes.now) result }
 {
     match packet_in(alloc, bytes) {
         Ok(packet) => Ok(packet),
@@ -55,10 +59,13 @@ pub fn addressee(bytes: &[u8]) -> Option<Node>
 }
 
 /// The entry that is spelt from place `at` on, counted from 0, and the place after it. `Refused` comes exactly where
-/// none is spelt from there on, and says where the bytes stop to spell one; `NoMemory` where there is no memory.
+/// none is spelt from there on, and says where the bytes stop to spell one; `NoMemory` where there is no memory,
+/// and only where the first item of a list was read.
 pub fn entry_at(alloc: Global, bytes: &[u8], at: usize) -> Result<(Entry, usize), WireError>
     requires { at ≤ length bytes.now }
-    ensures { ReadsAt entry_bytes IsEntry bytes.now at result }
+    ensures reads { ReadsAt entry_bytes IsEntry bytes.now at result }
+    ensures place { RefusesAt (length bytes.now) (entry_at (drop at bytes.now)) result }
+    ensures memory { LacksOnly (entry_takes (drop at bytes.now)) result }
 {
     match Entry::read(alloc, bytes.split_at(at).1) {
         Ok((entry, rest)) => Ok((entry, bytes.len().saturating_sub(rest.len()))),
@@ -67,10 +74,13 @@ pub fn entry_at(alloc: Global, bytes: &[u8], at: usize) -> Result<(Entry, usize)
 }
 
 /// The reply that is spelt from place `at` on, counted from 0, and the place after it. `Refused` comes exactly where
-/// none is spelt from there on, and says where the bytes stop to spell one; `NoMemory` where there is no memory.
+/// none is spelt from there on, and says where the bytes stop to spell one; `NoMemory` where there is no memory,
+/// and only where the first item of a list was read.
 pub fn reply_at(alloc: Global, bytes: &[u8], at: usize) -> Result<(Reply, usize), WireError>
     requires { at ≤ length bytes.now }
-    ensures { ReadsAt reply_bytes IsReply bytes.now at result }
+    ensures reads { ReadsAt reply_bytes IsReply bytes.now at result }
+    ensures place { RefusesAt (length bytes.now) (reply_at (drop at bytes.now)) result }
+    ensures memory { LacksOnly (reply_takes (drop at bytes.now)) result }
 {
     match reply_from(alloc, bytes.split_at(at).1) {
         Ok((reply, rest)) => Ok((reply, bytes.len().saturating_sub(rest.len()))),
@@ -105,7 +115,7 @@ pub fn put_reply(out: &mut Vec<u8>, reply: &Reply) -> Result<(), NoMemory>
 
 // What is answered of bytes that are not read.
 fn refused(bytes: &[u8], stop: FieldError) -> WireError
-    ensures { Refuses stop result }
+    ensures { Refuses (length bytes.now) stop result }
 {
     match stop {
         FieldError::Broken { left } => WireError::Refused {
@@ -116,13 +126,13 @@ fn refused(bytes: &[u8], stop: FieldError) -> WireError
 }
 
 // Sender, addressee and message of the kind that the front of the bytes spells, and what follows.
-#[tactic(auto, unfolding(crate::specs::Reading::packet_by))]
+#[tactic(auto, unfolding(crate::specs::Reading::packet_by, crate::specs::Taking::packet_by_takes))]
 fn packet_by(
     alloc: Global,
     kind: MessageKind,
     bytes: &[u8],
 ) -> Result<(((Node, Node), Message), &[u8]), FieldError>
-    ensures { Gives (λ read. (read.0, read.1.now)) result (packet_by kind bytes.now) }
+    ensures { Gives (packet_by_takes kind bytes.now) (λ read. (read.0, read.1.now)) result (packet_by kind bytes.now) }
 {
     let (from, rest) = node_at(kind.sender(), bytes)?;
     let (to, rest) = node_at(kind.addressee(), rest)?;
@@ -131,9 +141,9 @@ fn packet_by(
 }
 
 // The packet that the front of the bytes spells, and what follows.
-#[tactic(auto, unfolding(crate::specs::Reading::packet_at, crate::specs::Reading::message_kind_at))]
+#[tactic(auto, unfolding(crate::specs::Reading::packet_at, crate::specs::Reading::message_kind_at, crate::specs::Taking::packet_takes))]
 fn packet_at(alloc: Global, bytes: &[u8]) -> Result<(Packet, &[u8]), FieldError>
-    ensures { Gives (λ read. (read.0, read.1.now)) result (packet_at bytes.now) }
+    ensures { Gives (packet_takes bytes.now) (λ read. (read.0, read.1.now)) result (packet_at bytes.now) }
 {
     let (_, rest) = byte_in(1, 1, bytes)?;
     let (number, rest) = byte_in(1, 9, rest)?;
@@ -144,7 +154,7 @@ fn packet_at(alloc: Global, bytes: &[u8]) -> Result<(Packet, &[u8]), FieldError>
 // The packet that all of the bytes spell.
 #[tactic(auto, unfolding(crate::specs::Reading::packet_in))]
 fn packet_in(alloc: Global, bytes: &[u8]) -> Result<Packet, FieldError>
-    ensures { Gives (λ packet. packet) result (packet_in bytes.now) }
+    ensures { Gives (packet_takes bytes.now) (λ packet. packet) result (packet_in bytes.now) }
 {
     let (packet, rest) = packet_at(alloc, bytes)?;
     if rest.is_empty() {

@@ -3,6 +3,7 @@
 ghost use Rattle.std.specs.Prelude.{◌≡◌, ◌++◌, OnOk};
 ghost use Rattle.kr_wire.specs.Valid.{IsReply};
 ghost use Rattle.kr_wire.specs.Reading.{Gives, outcome_of, answer_of, reply_by, reply_at};
+ghost use Rattle.kr_wire.specs.Taking.{reply_by_takes, reply_takes};
 ghost use Rattle.kr_wire.specs.Spelling.{outcome_number, answer_number, reply_bytes};
 
 use crate::fields::{byte_in, positive, put_1, put_4, put_8, u32_at, u64_at};
@@ -36,10 +37,13 @@ fn outcome_number(outcome: Outcome) -> u8
 impl Spelt for Outcome {
     ghost use Rattle.kr_wire.specs.Spelling.{outcome_bytes};
     ghost use Rattle.kr_wire.specs.Reading.{outcome_at};
+    ghost use Rattle.kr_wire.specs.Taking.{never};
 
     ghost text = { outcome_bytes };
 
     ghost reading = { outcome_at };
+
+    ghost taking = { never };
 
     #[tactic(auto, unfolding(crate::specs::Reading::outcome_at))]
     fn read(_alloc: Global, bytes: &[u8]) -> Result<(Self, &[u8]), FieldError> {
@@ -83,10 +87,13 @@ fn answer_number(answer: Answer) -> u8
 impl Spelt for Answer {
     ghost use Rattle.kr_wire.specs.Spelling.{answer_bytes};
     ghost use Rattle.kr_wire.specs.Reading.{answer_at};
+    ghost use Rattle.kr_wire.specs.Taking.{never};
 
     ghost text = { answer_bytes };
 
     ghost reading = { answer_at };
+
+    ghost taking = { never };
 
     #[tactic(auto, unfolding(crate::specs::Reading::answer_at))]
     fn read(_alloc: Global, bytes: &[u8]) -> Result<(Self, &[u8]), FieldError> {
@@ -100,9 +107,9 @@ impl Spelt for Answer {
 }
 
 // The reply that follows its number, from 1 to 5, and what follows it.
-#[tactic(auto, unfolding(crate::specs::Reading::reply_by))]
+#[tactic(auto, unfolding(crate::specs::Reading::reply_by, crate::specs::Taking::reply_by_takes))]
 fn reply_by(alloc: Global, number: u8, bytes: &[u8]) -> Result<(Reply, &[u8]), FieldError>
-    ensures { Gives (λ read. (read.0, read.1.now)) result (reply_by number bytes.now) }
+    ensures { Gives (reply_by_takes number bytes.now) (λ read. (read.0, read.1.now)) result (reply_by number bytes.now) }
 {
     match number {
         1 => {
@@ -129,9 +136,9 @@ fn reply_by(alloc: Global, number: u8, bytes: &[u8]) -> Result<(Reply, &[u8]), F
 }
 
 // The reply that the front of the bytes spells, and what follows.
-#[tactic(auto, unfolding(crate::specs::Reading::reply_at))]
+#[tactic(auto, unfolding(crate::specs::Reading::reply_at, crate::specs::Taking::reply_takes))]
 pub(crate) fn reply_from(alloc: Global, bytes: &[u8]) -> Result<(Reply, &[u8]), FieldError>
-    ensures { Gives (λ read. (read.0, read.1.now)) result (reply_at bytes.now) }
+    ensures { Gives (reply_takes bytes.now) (λ read. (read.0, read.1.now)) result (reply_at bytes.now) }
 {
     let (number, rest) = byte_in(1, 5, bytes)?;
     reply_by(alloc, number, rest)

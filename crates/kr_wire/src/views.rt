@@ -1,8 +1,10 @@
 //! Views and nodes.
 
-ghost use Rattle.std.specs.Prelude.{◌≡◌, ◌++◌, IfOk, OnOk};
+ghost use Rattle.std.specs.Prelude.{◌≡◌, ◌++◌, false, IfOk, OnOk};
 ghost use Rattle.kr_wire.specs.Valid.{IsView, last_id};
-ghost use Rattle.kr_wire.specs.Reading.{Gives, rising_at, chain_at, joiner_at, view_at, node_at, node_of};
+ghost use Rattle.std.specs.Int.{w32};
+ghost use Rattle.kr_wire.specs.Reading.{Gives, above, rising_at, chain_at, joiner_at, view_at, node_at, node_of};
+ghost use Rattle.kr_wire.specs.Taking.{never, items_take, chain_takes, view_takes};
 ghost use Rattle.kr_wire.specs.Spelling.{joiner_number, node_number, view_bytes};
 
 use crate::fields::{byte_in, id_above, positive, put_4, put_8, u32_at};
@@ -16,10 +18,13 @@ impl Spelt for ServerId {
     ghost use Rattle.std.specs.Int.{w32};
     ghost use Rattle.kr_wire.specs.Spelling.{server_bytes};
     ghost use Rattle.kr_wire.specs.Reading.{above, made, server_of};
+    ghost use Rattle.kr_wire.specs.Taking.{never};
 
     ghost text = { server_bytes };
 
     ghost reading = { made server_of (above w32 0) };
+
+    ghost taking = { never };
 
     fn read(_alloc: Global, bytes: &[u8]) -> Result<(Self, &[u8]), FieldError> {
         let (id, rest) = id_above(0, bytes)?;
@@ -37,7 +42,8 @@ fn rising_at(
     count: u8,
     bytes: &[u8],
 ) -> Result<(Vec<ServerId>, u32, &[u8]), FieldError>
-    ensures value { Gives (λ read. (read.0.items, read.2.now)) result (rising_at count 0 bytes.now) }
+    ensures value { Gives (items_take (above w32 0) never count bytes.now)
+        (λ read. (read.0.items, read.2.now)) result (rising_at count 0 bytes.now) }
     ensures last { IfOk result (λ read. read.1 ≡ last_id 0 read.0.items) }
 {
     let mut ids = Vec::new(alloc);
@@ -53,9 +59,9 @@ fn rising_at(
 }
 
 // The chain that the front of the bytes spells, its last id, and what follows.
-#[tactic(auto, unfolding(crate::specs::Reading::chain_at))]
+#[tactic(auto, unfolding(crate::specs::Reading::chain_at, crate::specs::Taking::chain_takes))]
 fn chain_at(alloc: Global, bytes: &[u8]) -> Result<(Servers, u32, &[u8]), FieldError>
-    ensures value { Gives (λ read. (read.0, read.2.now)) result (chain_at bytes.now) }
+    ensures value { Gives (chain_takes bytes.now) (λ read. (read.0, read.2.now)) result (chain_at bytes.now) }
     ensures last { IfOk result (λ read. read.1 ≡ last_id 0 read.0) }
 {
     let (count, rest) = byte_in(1, 64, bytes)?;
@@ -66,7 +72,7 @@ fn chain_at(alloc: Global, bytes: &[u8]) -> Result<(Servers, u32, &[u8]), FieldE
 // The server that is added behind a chain with this last id, where there is one, and what follows.
 #[tactic(auto, unfolding(crate::specs::Reading::joiner_at))]
 fn joiner_at(last: u32, bytes: &[u8]) -> Result<(Option<ServerId>, &[u8]), FieldError>
-    ensures { Gives (λ read. (read.0, read.1.now)) result (joiner_at last bytes.now) }
+    ensures { Gives false (λ read. (read.0, read.1.now)) result (joiner_at last bytes.now) }
 {
     let (id, rest) = u32_at(bytes)?;
     if id == 0 {
@@ -79,9 +85,9 @@ fn joiner_at(last: u32, bytes: &[u8]) -> Result<(Option<ServerId>, &[u8]), Field
 }
 
 // The view that the front of the bytes spells, and what follows.
-#[tactic(auto, unfolding(crate::specs::Reading::view_at))]
+#[tactic(auto, unfolding(crate::specs::Reading::view_at, crate::specs::Taking::view_takes))]
 pub(crate) fn view_at(alloc: Global, bytes: &[u8]) -> Result<(View, &[u8]), FieldError>
-    ensures { Gives (λ read. (read.0, read.1.now)) result (view_at bytes.now) }
+    ensures { Gives (view_takes bytes.now) (λ read. (read.0, read.1.now)) result (view_at bytes.now) }
 {
     let (number, rest) = positive(bytes)?;
     let (chain, last, rest) = chain_at(alloc, rest)?;
@@ -117,7 +123,7 @@ pub(crate) fn put_view(out: &mut Vec<u8>, view: &View) -> Result<(), NoMemory>
 // The node of this party that the front of the bytes spells, and what follows.
 #[tactic(auto, unfolding(crate::specs::Reading::node_at))]
 pub(crate) fn node_at(party: Party, bytes: &[u8]) -> Result<(Node, &[u8]), FieldError>
-    ensures { Gives (λ read. (read.0, read.1.now)) result (node_at party bytes.now) }
+    ensures { Gives false (λ read. (read.0, read.1.now)) result (node_at party bytes.now) }
 {
     match party {
         Party::Manager => {
