@@ -1,6 +1,6 @@
-//! All waiting queries are answered, and what was found for one is told to the next.
+//! One worker answers some queries, and what it found for one is told to the next.
 
-ghost use Rattle.std.specs.Prelude.{◌≡◌, ◌+◌, ◌*◌, ◌<◌, ◌≤◌, [], ◌∷◌, None, length, map, IfOk, OnOk, OnErr};
+ghost use Rattle.std.specs.Prelude.{◌≡◌, ◌+◌, ◌*◌, ◌<◌, ◌≤◌, [], ◌∷◌, None, map, IfOk, OnOk};
 ghost use Rattle.kr_order.specs.Answer.{answer_to, answers_after};
 ghost use Rattle.reach.specs.Search.{numbered};
 ghost use Rattle.query_worker.specs.Known.{number_of, known_of, AreAnswers, Learns, KnowsAlso, IsWithin};
@@ -12,10 +12,6 @@ use std::alloc::Global;
 use std::collections::HashMap;
 use std::marker::Brand;
 use std::sync::ledger::{Blank, Ledger};
-use std::thread::Threads;
-
-/// The greatest number of workers.
-pub const MOST_WORKERS: u32 = 8;
 
 // The answers that were found, by the numbers of the two events.
 type Known = HashMap<(u64, u64), Answer>;
@@ -92,19 +88,19 @@ fn told<A: Asks, L: Ledger>(
     alloc: Global,
     order: &A,
     queries: &[Query],
+    scratch: &mut Scratch,
     steps: &mut Steps<L>,
 ) -> Result<Vec<Told>, NoMemory>
     ensures told { IfOk result (λ told. told.items ≡ map (told_after (A.history order.now)) queries.now) }
     ensures most { OnOk result (steps.new
         ≤ steps.old + 2 * (A.held order.now + A.pairs_held order.now) * count_asked queries.now) }
 {
-    let mut scratch = Scratch::new(alloc);
-    order.fit(&mut scratch)?;
+    order.fit(scratch)?;
     let mut known = Known::new(alloc);
     let mut told = Vec::new(alloc);
     for query in queries {
         let pairs = query.pairs.as_slice();
-        let answers = answers(alloc, order, &mut known, pairs, &mut scratch, steps)?;
+        let answers = answers(alloc, order, &mut known, pairs, scratch, steps)?;
         told.push(Told {
             entry: order.entry(),
             answers,
@@ -114,10 +110,11 @@ fn told<A: Asks, L: Ledger>(
 }
 
 // The same, by steps that nobody counts.
-fn told_uncounted<A: Asks, L: Ledger>(
+fn told_by<A: Asks, L: Ledger>(
     alloc: Global,
     order: &A,
     queries: &[Query],
+    scratch: &mut Scratch,
     blank: Blank,
 ) -> Result<Vec<Told>, NoMemory>
     requires name { blank.name ≡ L.name }
@@ -126,26 +123,17 @@ fn told_uncounted<A: Asks, L: Ledger>(
     ensures { IfOk result (λ told. told.items ≡ map (told_after (A.history order.now)) queries.now) }
 {
     let mut steps = Steps::<L>::new(blank);
-    told(alloc, order, queries, &mut steps)
+    told(alloc, order, queries, scratch, &mut steps)
 }
 
-/// What is told to these queries after the order's history, one after the other, whatever the number of workers: 1 to 8.
-/// For now one thread gives all answers. A pair that is asked more than once is searched for once. `NoMemory` comes only
-/// where there is a query.
-pub fn answer_all<A: Asks + Sync, R: Threads>(
-    _rt: &R,
+/// What one worker tells to these queries, in their order. The scratch may be that of any earlier search.
+pub fn told_uncounted<A: Asks>(
     alloc: Global,
     order: &A,
     queries: &[Query],
-    workers: u32,
+    scratch: &mut Scratch,
 ) -> Result<Vec<Told>, NoMemory>
-    requires least { 1 ≤ workers }
-    requires most { workers ≤ MOST_WORKERS }
-    ensures told { IfOk result (λ told. told.items ≡ map (told_after (A.history order.now)) queries.now) }
-    ensures err { OnErr result (0 < length queries.now) }
+    ensures { IfOk result (λ told. told.items ≡ map (told_after (A.history order.now)) queries.now) }
 {
-    if queries.len() == 0 {
-        return Ok(Vec::new(alloc));
-    }
-    told_uncounted::<A, Brand>(alloc, order, queries, Blank::new(1))
+    told_by::<A, Brand>(alloc, order, queries, scratch, Blank::new(1))
 }
