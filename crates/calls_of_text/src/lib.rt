@@ -5,6 +5,8 @@
 #![tactic(auto)]
 
 #[cfg(test)]
+mod chain_input;
+#[cfg(test)]
 mod live_input;
 #[cfg(test)]
 mod load;

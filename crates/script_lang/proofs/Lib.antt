@@ -11,3 +11,6 @@ pub mod LiveLemmas
 pub mod LiveLineLemmas
 mod LiveSpellings
 pub mod PrintLemmas
+pub mod ChainLemmas
+pub mod ChainLineLemmas
+mod ChainSpellings

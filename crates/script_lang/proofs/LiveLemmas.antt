@@ -34,7 +34,7 @@ live_text-has_no_end clients few (client, Query pairs) fit =
     free_append (codes "query " ++ decimal client.0) (asked_words pairs) (free_append (codes "query ") (decimal client.0) (no_end_by_test (codes "query ") refl) (decimal_has_no_end client.0 (omega (arith, few, fit.client_fits.high)))) (words_have_no_end asked_word IsAskedPair asked_has_no_end pairs fit.call_fits.pairs_fit.each)
 
 -- the first word of a call's line has no space in it
-live_word-has_no_space : (call : LiveCall) → HasNoSpace (live_word call)
+pub live_word-has_no_space : (call : LiveCall) → HasNoSpace (live_word call)
 live_word-has_no_space (Command command) = event_word-has_no_space (script.Call (record { 0 = 1 }) command)
 live_word-has_no_space (Query pairs) = event_word-has_no_space (script.Query (record { 0 = 1 }) (record { 0 = 1 }) pairs)
 
@@ -51,7 +51,7 @@ behind_word : (clients : ℕ) (call : ClientId × LiveCall) (rest : List ℕ) �
 behind_word clients call rest fit is = record { fit = fit.client_fits; whole = is; ends = live_words-begin call.1 }
 
 -- a line is cut behind the first word of its call
-cut_so : (text word rest : List ℕ) (call : ClientId × LiveCall) → IsWordCut text word rest → text ≡ live_text call → (word ≡ live_word call.1) × (rest ≡ call_words call)
+pub cut_so : (text word rest : List ℕ) (call : ClientId × LiveCall) → IsWordCut text word rest → text ≡ live_text call → (word ≡ live_word call.1) × (rest ≡ call_words call)
 cut_so text word rest call cut is =
     cut_once (λ b. b ≢ 32) word rest (live_word call.1) (call_words call) cut.word_has_no_space (live_word-has_no_space call.1) cut.ends (λ other. other refl) (sym cut.whole ∙ is)
 

@@ -9,3 +9,6 @@ pub mod Laws
 pub mod Live
 pub mod LiveRows
 pub mod LiveLaws
+pub mod Chain
+pub mod ChainRows
+pub mod ChainLaws

@@ -7,9 +7,12 @@
 //! have too, are printed here.
 //!
 //! Live input has lines of its own: the first, `live C`, gives the number of clients, and each of the others is a call of
-//! one of them. Its grammar is stated, and read, in the same way.
+//! one of them. The input of a chain has lines again: the first, `chain`, then commands, and queries of its three nodes.
+//! Both grammars are stated, and read, in the same way.
 #![tactic(auto)]
 
+mod chain;
+pub mod chain_laws;
 mod events;
 pub mod laws;
 mod line;
@@ -22,6 +25,7 @@ mod read;
 mod script;
 mod words;
 
+pub use chain::{ChainLine, ChainPlan, ChainQueries, ChainQuery, read_chain};
 pub use live::{LiveCall, LiveCalls, LivePlan, read_live};
 pub use print::{print_first, print_line};
 pub use put::{put_answer_text, put_done, put_reply_text};

@@ -79,7 +79,7 @@ fn clients_line(bytes: &[u8]) -> Option<(u32, &[u8])>
 }
 
 // The call of the line, by one of so many clients.
-fn call_of(
+pub(crate) fn call_of(
     alloc: Global,
     clients: u32,
     text: &[u8],

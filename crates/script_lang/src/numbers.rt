@@ -1,6 +1,6 @@
 //! Numbers in a line.
 
-ghost use Rattle.std.specs.Prelude.{◌≡◌, ℕ, List, ◌++◌, All, IfSome, IfNone};
+ghost use Rattle.std.specs.Prelude.{◌≡◌, ◌≤◌, ℕ, List, ◌++◌, All, IfSome, IfNone};
 ghost use Rattle.std.specs.Fmt.{decimal};
 ghost use Rattle.script_lang.specs.Number.{IsFromOneTo, IsDigit, BeginsNoDigit, ReadsNumber, ReadsTwo};
 ghost use Rattle.script_lang.specs.Reading.{Spells, ReadsWord, AreFromOneTo, one_word, two_words};
@@ -63,6 +63,17 @@ pub(crate) fn number_word(bytes: &[u8], most: u64) -> Option<(u64, &[u8])>
 {
     let word = behind(bytes, b" ")?;
     number_in_front(word, most)
+}
+
+// The number from 0 to `most` in front, behind a space, and what follows its last digit.
+pub(crate) fn count_word(bytes: &[u8], most: u64) -> Option<(u64, &[u8])>
+    ensures some { IfSome result (λ read. ReadsWord decimal (λ n. n ≤ most) bytes.now read.0 read.1.now) }
+    ensures none { IfNone result ((n : ℕ) (rest : List ℕ) → ReadsWord decimal (λ n. n ≤ most) bytes.now n rest → ⊥) }
+{
+    let word = behind(bytes, b" ")?;
+    let (digits, rest) = split_digits(word);
+    let n = read_number(digits, most)?;
+    Some((n, rest))
 }
 
 // The one number from 1 to `most` that the words give.
