@@ -112,9 +112,13 @@ impl Workers {
         if queries.len() <= size {
             return told_by_worker(alloc, order, scratches, 0, queries);
         }
-        let runs = map_chunks(rt, alloc, queries, size, &|start, run| {
-            told_by_worker(alloc, order, scratches, start / size, run)
-        })?;
+        let runs = map_chunks(
+            rt,
+            alloc,
+            queries,
+            size,
+            &|start, run| { told_by_worker(alloc, order, scratches, start / size, run) },
+        )?;
         joined(alloc, order, queries, size, runs)
     }
 }
