@@ -2,6 +2,7 @@
 
 ghost use Rattle.std.specs.Prelude.{◌≡◌, ◌^◌, ◌<◌, ◌∷◌, ◌++◌, [], List, length, map, IfOk, OnOk, OnErr};
 ghost use Rattle.std.specs.Option.{option_map};
+ghost use Rattle.std.specs.Thread.{IsSync};
 ghost use Rattle.kr_order.specs.declared.history.Entry.{Entry};
 ghost use Rattle.kr_order.specs.Held.{held_events, held_pairs};
 ghost use Rattle.kr_order.specs.Reply.{reply_to};
@@ -11,7 +12,7 @@ ghost use Rattle.order_state.specs.Kept.{kept_of};
 
 use crate::{Kept, State};
 use kr_order::{ClientId, Copied, Entry, NoMemory, Query, Reply, Told};
-use query_worker::{MOST_WORKERS, answer_all};
+use query_worker::{MOST_WORKERS, Workers};
 use std::alloc::Global;
 use std::marker::Model;
 use std::thread::Threads;
@@ -30,13 +31,15 @@ pub trait Board: Drop {
         ensures err { OnErr result (stands self.new ≡ stands self.old) };
 
     /// The answers to these queries after the history, one after the other, whatever the number of workers. `NoMemory`
-    /// comes only where there is a query.
+    /// comes only where there is a query. Its one condition is the bound `Sync`, which holds of each `R` that it is called
+    /// with: a method of a trait knows of it by a clause.
     fn all<R: Threads + Sync>(
         &self,
         rt: &R,
         queries: &[Query],
         workers: u32,
     ) -> Result<Vec<Told>, NoMemory>
+        requires { IsSync R.row }
         ensures told { IfOk result (λ told. told.items ≡ map (told_after (stands self.now)) queries.now) }
         ensures err { OnErr result (0 < length queries.now) };
 
@@ -62,6 +65,7 @@ pub trait Board: Drop {
 pub struct PlainBoard {
     alloc: Global,
     state: State,
+    workers: Workers,
 }
 
 impl Model for PlainBoard {
@@ -81,6 +85,7 @@ impl PlainBoard {
         PlainBoard {
             alloc,
             state: State::new(alloc),
+            workers: Workers::new(alloc),
         }
     }
 }
@@ -100,7 +105,7 @@ impl Board for PlainBoard {
         workers: u32,
     ) -> Result<Vec<Told>, NoMemory> {
         let workers = workers.max(1).min(MOST_WORKERS);
-        answer_all(rt, self.alloc, &self.state, queries, workers)
+        self.workers.answer_all(rt, &self.state, queries, workers)
     }
 
     fn last(&self, client: ClientId) -> Result<Option<Kept>, NoMemory> {
