@@ -63,9 +63,11 @@ pub fn put_all(state: &mut State, entries: &[Entry]) -> Result<(), NoMemory>
     Ok(())
 }
 
-/// Makes so many events, as client 1, whose commands have these numbers and those behind them.
-pub fn create_all(state: &mut State, first: u64, times: u64) -> Result<(), NoMemory>
+/// Makes so many events, as client 1, whose commands have these numbers and those behind them, and gives how many entries
+/// there are then. After `NoMemory` those before the one that found none are in it.
+pub fn create_all(state: &mut State, first: u64, times: u64) -> Result<u64, NoMemory>
     requires { first.now + times.now < 2 ^ 64 }
+    ensures { IfOk result (λ entries. entries ≡ length state.new.history) }
 {
     for made in 0..times {
         if state.count() >= 1 << 57 {
@@ -73,7 +75,7 @@ pub fn create_all(state: &mut State, first: u64, times: u64) -> Result<(), NoMem
         }
         put(state, &entry(first + made, Command::Create))?;
     }
-    Ok(())
+    Ok(state.count())
 }
 
 /// How the first event stands to the second after the history.
