@@ -49,7 +49,11 @@ fn is_unknown(rt: &impl Abort, told: &Told, count: usize) {
     }
 }
 
-fn ask<A: Asks + Sync, R: Threads + Sync + Abort>(rt: &R, alloc: Global, order: &A) -> Result<(), Fail> {
+fn ask<A: Asks + Sync, R: Threads + Sync + Abort>(
+    rt: &R,
+    alloc: Global,
+    order: &A,
+) -> Result<(), Fail> {
     let mut queries = Vec::new(alloc);
     for count in 0..4 {
         let mut pairs = Asked::new(alloc);
