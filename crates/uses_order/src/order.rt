@@ -66,7 +66,7 @@ pub fn put_all(state: &mut State, entries: &[Entry]) -> Result<(), NoMemory>
 /// Makes so many events, as client 1, whose commands have these numbers and those behind them, and gives how many entries
 /// there are then. After `NoMemory` those before the one that found none are in it.
 pub fn create_all(state: &mut State, first: u64, times: u64) -> Result<u64, NoMemory>
-    requires { first.now + times.now < 2 ^ 64 }
+    requires { first + times < 2 ^ 64 }
     ensures { IfOk result (λ entries. entries ≡ length state.new.history) }
 {
     for made in 0..times {
