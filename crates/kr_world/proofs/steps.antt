@@ -12,5 +12,6 @@ pub mod BagLemmas
 pub mod GrowLemmas
 -- Where the bag is full, the steps that may send are refused.
 pub mod FullBagLemmas
+pub mod SpentLemmas
 -- No step begins more than one query of a client.
 pub mod CountLemmas

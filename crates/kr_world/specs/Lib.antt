@@ -18,4 +18,5 @@ pub mod Sound
 pub mod Lawful
 pub mod Facts
 pub mod FullBag
+pub mod Spent
 pub mod EveryWorld

@@ -2,6 +2,7 @@
 
 ghost use Rattle.std.specs.Prelude.{◌≡◌, [], ◌∷◌};
 ghost use Rattle.kr_world.specs.FullBag.{AFullBagRefuses};
+ghost use Rattle.kr_world.specs.Spent.{JoinsEnd};
 ghost use Rattle.kr_world.specs.Run.{text_of};
 ghost use Rattle.kr_world.specs.ChainRows.{three_servers, three_servers_text, down_the_chain, down_the_chain_text};
 ghost use Rattle.kr_world.specs.ChainRows.{entries_come_again, entries_come_again_text, lost_on_the_way};
@@ -50,6 +51,11 @@ pub fn events_are_numbered_in_order()
 /// server's work and tick, and each round.
 pub fn a_full_bag_refuses()
     ensures { AFullBagRefuses }
+{}
+
+/// A join is refused with `ServersSpent` exactly where 64 servers were made and none is being added.
+pub fn joins_end_with_the_servers()
+    ensures { JoinsEnd }
 {}
 
 /// An answer is told once, and one to another query is not told.
