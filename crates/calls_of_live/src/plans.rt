@@ -1,29 +1,28 @@
-//! Runs of plans, by one client and by two.
+//! Runs of `live`, by one client and by two.
 
+use super::calls::{end_of, sink_of, source_of, text_of};
 use super::gates::{Keeping, OneDoor};
-use super::texts::text_of;
 use kr_text::{Gate, OpenGate, Point};
-use live_service::{laws, run_live};
-use script_lang::read_live;
+use live_driver::Exit;
 use std::alloc::Global;
 use std::sync::Wait;
 use std::test::Fail;
 use std::thread::Threads;
 
-// What the run of this input is printed as, by way of a gate.
+// What is written of this input, by way of a gate.
 fn run_of<R: Threads + Wait + Sync, G: Gate + Sync>(
     rt: &R,
     alloc: Global,
     input: &str,
     gate: &G,
 ) -> Result<String, Fail> {
-    let plan = read_live(alloc, input.as_bytes())?;
-    if plan.calls.len() > 100 {
-        return Err("more calls than a test has".into());
+    let mut source = source_of(alloc, input.as_bytes(), 0)?;
+    let mut sink = sink_of(alloc, 1024, 0)?;
+    let exit = end_of(rt, alloc, &mut source, &mut sink, gate)?;
+    if exit != Exit::Done {
+        return Err("the run is not done".into());
     }
-    laws::plans_can_be_run();
-    let run = run_live(rt, alloc, &plan, gate)?;
-    Ok(text_of(alloc, &run)?)
+    Ok(String::from_str(alloc, text_of(&sink))?)
 }
 
 // A gate that keeps this client's first call at this point until the other's first call has its answer.
