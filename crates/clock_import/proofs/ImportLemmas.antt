@@ -8,11 +8,8 @@ use Rattle.clock_import.specs.declared.imported.Clocked.{Clocked}
 use Rattle.clock_import.specs.Pairs.{pairs_to, numbers, numbered}
 use Rattle.clock_import.specs.Clocks.{clocks_of_log}
 use Rattle.clock_import.specs.Imported.{ClosesCycle}
-use Rattle.clock_import.specs.Text.{event_lines, pair_line}
+use Rattle.clock_import.specs.Text.{event_lines, order_text}
 use Rattle.clock_import.specs.Laws.{TheCyclicLineIsOne, CyclesAreInNoImport, TheTextIsOne}
-use Rattle.std.specs.Prelude.{flat_map, codes}
-use Rattle.std.specs.Fmt.{decimal}
-use Rattle.script_lang.specs.Line.{line}
 use Rattle.clock_import.proofs.BringLemmas.{acyclic_fewer}
 use Rattle.clock_import.proofs.OnceLemmas.{one_log}
 
@@ -61,8 +58,6 @@ one_text bytes text text' one other =
     let pairs : one.imported.pairs ≡ other.imported.pairs = one_pairs one.imported.pairs other.imported.pairs
     (one.is.tells.pairs ∙ ap (λ ls. pairs_to ls (length ls)) same.1 ∙ sym other.is.tells.pairs) in
     one.text_is
-    ∙ ap (λ (e : List Clocked). event_lines 1 e ++ line (codes "pairs " ++ decimal (length one.imported.pairs)) ++ flat_map pair_line
-    one.imported.pairs ++ line (codes "end")) events
-    ∙ ap (λ (p : List (EventId × EventId)). event_lines 1 other.imported.events ++ line
-    (codes "pairs " ++ decimal (length p)) ++ flat_map pair_line p ++ line (codes "end")) pairs
+    ∙ ap (λ (e : List Clocked). event_lines 1 e ++ order_text one.imported.pairs) events
+    ∙ ap (λ (p : List (EventId × EventId)). event_lines 1 other.imported.events ++ order_text p) pairs
     ∙ sym other.text_is

@@ -26,11 +26,13 @@ event_lines event (clocked ∷ more) = event_line event clocked ++ event_lines (
 abbrev pub pair_line : EventId × EventId → List ℕ
 pair_line pair = line (decimal pair.0.0 ++ codes "!" ++ decimal pair.1.0)
 
+-- what is printed of the pairs
+abbrev pub order_text : List (EventId × EventId) → List ℕ
+order_text pairs = line (codes "pairs " ++ decimal (length pairs)) ++ flat_map pair_line pairs ++ line (codes "end")
+
 -- the whole text
 abbrev pub import_text : Imported → List ℕ
-import_text imported =
-    event_lines 1 imported.events ++ line (codes "pairs " ++ decimal (length imported.pairs)) ++ flat_map pair_line imported.pairs
-    ++ line (codes "end")
+import_text imported = event_lines 1 imported.events ++ order_text imported.pairs
 
 -- the bytes spell a log without a cycle, and this is the text of its import
 pub record IsTextOf (bytes text : List ℕ) : Type 0 where

@@ -48,29 +48,30 @@ pub fn import(alloc: Global, bytes: &[u8]) -> Result<Imported, ImportStop>
     ensures told { IfOk result IsImported }
 {
     let log = read_log(alloc, bytes)?;
-    bring(alloc, &log)
+    bring(alloc, log)
 }
 
 // What is told of the log.
-fn bring(alloc: Global, log: &Log) -> Result<Imported, ImportStop>
-    requires log { IsLog log.now.processes log.now.lines.items }
-    requires messages { TellsFirsts log.now.lines.items log.now.messages }
-    ensures { Brings log.now.processes log.now.lines.items result }
+fn bring(alloc: Global, log: Log) -> Result<Imported, ImportStop>
+    requires log { IsLog log.processes log.lines.items }
+    requires messages { TellsFirsts log.lines.items log.messages }
+    ensures { Brings log.processes log.lines.items result }
 {
-    let lines = log.lines.as_slice();
-    let links = links_of(alloc, log.processes, lines, &log.messages)?;
+    let Log {
+        processes,
+        lines,
+        messages,
+    } = log;
+    let lines = lines.as_slice();
+    let links = links_of(alloc, processes, lines, &messages)?;
     match order_of(alloc, links.as_slice(), lines.len())? {
         Some(order) => {
-            let pairs = pairs_of(alloc, lines, links.as_slice(), &log.messages)?;
-            let events = clocks_of(
-                alloc,
-                log.processes,
-                lines,
-                links.as_slice(),
-                order.as_slice(),
-            )?;
+            let pairs = pairs_of(alloc, lines, links.as_slice(), &messages)?;
+            // the clocks are made where there is room for them
+            drop(messages);
+            let events = clocks_of(alloc, processes, lines, links.as_slice(), order.as_slice())?;
             Ok(Imported {
-                processes: log.processes,
+                processes,
                 events,
                 pairs,
             })

@@ -42,7 +42,7 @@ pub(crate) fn clocks_of(
 fn without_clocks(alloc: Global, lines: &[LogLine]) -> Result<Vec<Clocked>, NoMemory>
     ensures { IfOk result (λ events. events.items ≡ map (λ entry. record { process = entry.process; clock = [] }) lines.now) }
 {
-    let mut events = Vec::new(alloc);
+    let mut events = Vec::with_capacity(alloc, lines.len())?;
     for entry in lines {
         events.push(Clocked {
             process: entry.process,
@@ -74,7 +74,7 @@ fn joined(
 }
 
 // The clock of the event; none where there is no event.
-fn clock_of_event(events: &[Clocked], event: Option<usize>) -> &[u64]
+fn clock_of_event(events: &[Clocked], event: Option<usize>) -> &[u16]
     ensures { result.now ≡ clock_of_event events.now event }
 {
     match event {
@@ -88,7 +88,7 @@ fn clock_of_event(events: &[Clocked], event: Option<usize>) -> &[u64]
 
 // The number for the process p in the clock of an event of the process with this number among its events, where these
 // are the clocks of the events that lead to it.
-fn join_at(process: u32, number: u64, prior: &[u64], source: &[u64], p: u32) -> u64
+fn join_at(process: u32, number: u16, prior: &[u16], source: &[u16], p: u32) -> u16
     ensures { result ≡ join_at process number prior.now source.now p }
 {
     let most = part_in(prior, p).max(part_in(source, p));
@@ -96,7 +96,7 @@ fn join_at(process: u32, number: u64, prior: &[u64], source: &[u64], p: u32) -> 
 }
 
 // The number of the process in the clock.
-fn part_in(clock: &[u64], process: u32) -> u64
+fn part_in(clock: &[u16], process: u32) -> u16
     ensures { result ≡ part_in clock.now process }
 {
     match clock.get((process as usize).saturating_sub(1)) {
@@ -106,7 +106,7 @@ fn part_in(clock: &[u64], process: u32) -> u64
 }
 
 // The number of the process in the clock of the event, if there is one.
-pub(crate) fn part_of(events: &[Clocked], event: Option<usize>, process: u32) -> u64
+pub(crate) fn part_of(events: &[Clocked], event: Option<usize>, process: u32) -> u16
     ensures { result ≡ part_of events.now event process }
 {
     part_in(clock_of_event(events, event), process)

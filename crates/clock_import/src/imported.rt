@@ -7,8 +7,8 @@ ghost use Rattle.script_lang.specs.Number.{IsFromOneTo};
 use crate::clocks::part_of;
 use kr_order::{EventId, Listed};
 
-/// A vector clock: for each process, from process 1 on, how many of its events the event knows.
-pub type Clock = Listed<u64>;
+/// A vector clock: for each process, from process 1 on, how many of its events the event knows, of at most 20,000.
+pub type Clock = Listed<u16>;
 
 /// An event's process, from 1, and its clock.
 #[derive(Debug, Drop)]

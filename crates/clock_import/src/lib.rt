@@ -25,4 +25,4 @@ mod tests;
 pub use bring::{ImportStop, import};
 pub use commands::Commands;
 pub use imported::{Clock, Clocked, Clockeds, EventPairs, Imported};
-pub use print::put_import;
+pub use print::{put_events, put_import, put_order};

@@ -17,14 +17,14 @@ use std::alloc::Global;
 pub(crate) struct Link {
     pub(crate) prior: Option<usize>,
     pub(crate) source: Option<usize>,
-    pub(crate) number: u64,
+    pub(crate) number: u16,
 }
 
 // What was seen of a process: its last event, and how many it had.
 #[derive(Clone, Copy, Debug, PartialEq, Eq)]
 pub(crate) struct Seen {
     last: Option<usize>,
-    count: u64,
+    count: u16,
 }
 
 // The links of the events.
@@ -44,7 +44,7 @@ pub(crate) fn links_of(
         count: 0,
     };
     let mut seen = vec![in alloc; none; processes as usize + 1]?;
-    let mut links = Vec::new(alloc);
+    let mut links = Vec::with_capacity(alloc, lines.len())?;
     for (i, entry) in lines.iter().enumerate() {
         let process = entry.process as usize;
         let of_process = seen[process];
