@@ -1,5 +1,5 @@
 -- How the end of an import follows from what was written.
-use Rattle.std.proofs.Common.{◌≡◌, ℕ, ◌+◌, ◌≤◌, inl, inr, List, [], ◌∷◌, ◌++◌, length, take, drop, refl, sym, ap, ◌∙◌, subst, arith, append_assoc}
+use Rattle.std.proofs.Common.{◌≡◌, ℕ, ◌+◌, ◌≤◌, inr, List, [], ◌∷◌, ◌++◌, length, take, drop, refl, sym, ap, ◌∙◌, subst, arith, append_assoc}
 use Rattle.std.specs.Prelude.{codes, flat_map, Option, Result, Ok, Err}
 use Rattle.std.specs.Fmt.{decimal}
 use Rattle.std.specs.Io.KnownBytes.{Appends}
@@ -14,7 +14,7 @@ use Rattle.kronos_runs.specs.declared.run.RunError.{RunError}
 use Rattle.kronos_runs.specs.declared.run.RunError.TheVariants.{Write, Memory}
 use Rattle.kronos_runs.specs.Logs.{IsCycleOf, EndsOnLog}
 use Rattle.kronos_runs.specs.Runs.{IsWritten, exit_after}
-use Rattle.kronos_runs.proofs.RunLemmas.{took_behind, front_behind, front_nothing}
+use Rattle.kronos_runs.proofs.RunLemmas.{took_behind, front_behind}
 
 -- the line of its first cycle
 pub cycle_ends : {U : Type 0} (result : Result U RunError) (n : ℕ) (bytes text : List ℕ) (held held' : Option (List ℕ))

@@ -1,9 +1,9 @@
-use Rattle.std.proofs.Common.{arith}
+use Rattle.std.proofs.Common.{rules}
 use Rattle.kronos_runs.proofs.LogLemmas.{none_written, cut_at, more_written, no_more_written, all_lines_written}
 use Rattle.kronos_runs.proofs.imports.write_events.Goals as goal
 
-pub loop-rest-begins : goal.loop-rest-begins
-loop-rest-begins g c =
+pub loop-rest-init : goal.loop-rest-init
+loop-rest-init g c =
     none_written c.args.events.now (g.K.Sink.held c.args.sink.now) (g.K.Sink.faults c.args.sink.now)
 
 pub loop-rest-preserved : goal.loop-rest-preserved
@@ -26,4 +26,4 @@ returns-in-Err g c =
 
 pub returns : goal.returns
 returns g c =
-    all_lines_written c.args.events.now c.loop-rest.before c.loop-rest.rest.now (g.K.Sink.held c.args.sink.now) (g.K.Sink.held c.loop-rest.sink) (g.K.Sink.faults c.args.sink.now) (g.K.Sink.faults c.loop-rest.sink) (omega arith) c.loop-rest.invariant
+    all_lines_written c.args.events.now c.loop-rest.before c.loop-rest.rest.now (g.K.Sink.held c.args.sink.now) (g.K.Sink.held c.loop-rest.sink) (g.K.Sink.faults c.args.sink.now) (g.K.Sink.faults c.loop-rest.sink) (search rules) c.loop-rest.invariant
