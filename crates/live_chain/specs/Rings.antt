@@ -7,9 +7,9 @@ use Rattle.live_chain.specs.declared.ring.Counted.{Counted}
 use Rattle.live_chain.specs.declared.ring.Counted.TheVariants.{Applied}
 use Rattle.rtrb.specs.declared.producer.Producer.{Producer}
 use Rattle.rtrb.specs.declared.consumer.Consumer.{Consumer}
-use Rattle.rtrb.specs.declared.protocol.AnyItems.{AnyItems}
+use Rattle.rtrb.specs.declared.AnyItems.{AnyItems}
 use Rattle.rtrb.specs.Ring.{sent, received, known_free, SameProducer, IsPair}
-use Rattle.std.specs.Alloc.{Global}
+use Rattle.std.specs.declared.alloc.Global.{Global}
 
 -- an end of a ring between nodes
 abbrev pub Into : Type 0

@@ -23,7 +23,10 @@ pub enum Counted {
 }
 
 // A ring with room for so many items and the end mark.
-pub(crate) fn ring_for<T: Drop>(alloc: Global, most: usize) -> Result<(Producer<T>, Consumer<T>), NoMemory>
+pub(crate) fn ring_for<T: Drop>(
+    alloc: Global,
+    most: usize,
+) -> Result<(Producer<T>, Consumer<T>), NoMemory>
     ensures pair { IfOk result (λ ends. IsPair ends.0 ends.1) }
     ensures empty { IfOk result (λ ends. (sent ends.0 ≡ []) × (received ends.1 ≡ [])) }
     ensures room { IfOk result (λ ends. known_free ends.0 ≡ most + 1) }

@@ -58,8 +58,24 @@ impl Chain {
         let (head, middle, tail) = three_copies(rt, alloc)?;
         Ok(Chain {
             ring,
-            head: Stage::new(alloc, 1, most, head, from_feed, Some(into_middle), head_counts),
-            middle: Stage::new(alloc, 2, most, middle, from_head, Some(into_tail), middle_counts),
+            head: Stage::new(
+                alloc,
+                1,
+                most,
+                head,
+                from_feed,
+                Some(into_middle),
+                head_counts,
+            ),
+            middle: Stage::new(
+                alloc,
+                2,
+                most,
+                middle,
+                from_head,
+                Some(into_tail),
+                middle_counts,
+            ),
             tail: Stage::new(alloc, 3, most, tail, from_middle, None, tail_counts),
         })
     }
@@ -122,8 +138,12 @@ fn run_two<R: Threads + Wait + Sync, G: Gate + Sync>(
 {
     join_mut(
         rt,
-        &mut || tail.run(rt, alloc, gate, &plan.queries),
-        &mut || middle.run(rt, alloc, gate, &plan.queries),
+        &mut ||
+            requires { IsReady tail.now.teller.node tail.now × (length plan.now.queries < 2 ^ 32) }
+        { tail.run(rt, alloc, gate, &plan.queries) },
+        &mut ||
+            requires { IsReady middle.now.teller.node middle.now × (length plan.now.queries < 2 ^ 32) }
+        { middle.run(rt, alloc, gate, &plan.queries) },
     );
 }
 
@@ -150,8 +170,13 @@ fn run_three<R: Threads + Wait + Sync, G: Gate + Sync>(
 {
     join_mut(
         rt,
-        &mut || run_two(rt, alloc, plan, gate, middle, tail),
-        &mut || head.run(rt, alloc, gate, &plan.queries),
+        &mut ||
+            requires { IsReady middle.now.teller.node middle.now × IsReady tail.now.teller.node tail.now
+                × (length plan.now.queries < 2 ^ 32) }
+        { run_two(rt, alloc, plan, gate, middle, tail) },
+        &mut ||
+            requires { IsReady head.now.teller.node head.now × (length plan.now.queries < 2 ^ 32) }
+        { head.run(rt, alloc, gate, &plan.queries) },
     );
 }
 
@@ -176,7 +201,10 @@ impl Chain {
         let tail = &mut self.tail;
         let (_, fed) = join_mut(
             rt,
-            &mut || run_three(rt, alloc, plan, gate, head, middle, tail),
+            &mut ||
+                requires { IsReady head.now.teller.node head.now × IsReady middle.now.teller.node middle.now
+                    × IsReady tail.now.teller.node tail.now × (length plan.now.queries < 2 ^ 32) }
+            { run_three(rt, alloc, plan, gate, head, middle, tail) },
             &mut || feed(alloc, &plan.entries, ring),
         );
         fed

@@ -9,11 +9,11 @@ ghost use Rattle.live_chain.specs.Nodes.{AreFresh};
 ghost use Rattle.live_chain.specs.Rings.{HasPlaces, WasSent};
 ghost use Rattle.live_chain.specs.Stages.{HasNoted, HasRun, IsReady, IsSameStage};
 
+use crate::ChainNode;
 use crate::copies::Copies;
 use crate::node::Node;
 use crate::reader::{Teller, Tolds};
 use crate::ring::{Counted, Passed};
-use crate::ChainNode;
 use kr_order::{DoneList, NoMemory};
 use kr_text::Gate;
 use order_board::{BoardReader, BoardWriter};

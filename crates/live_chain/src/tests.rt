@@ -93,11 +93,24 @@ fn run_text<R: Threads + Wait + Sync, G: Gate + Sync>(
 fn both_ends_tell_of_one_order(rt: HostRuntime) -> Result<(), Fail> {
     let run = run_text(&rt, rt.alloc(), BOTH_ENDS, &OpenGate)?;
     let head = &run.head.told.as_slice()[0];
-    assert_eq!(rt; (head.entry, head.answers.as_slice()), (3, [Answer::Before].as_slice()));
+    assert_eq!(rt;
+        (head.entry, head.answers.as_slice()),
+        (3, [Answer::Before].as_slice())
+    );
     let tail = &run.tail.told.as_slice()[0];
-    assert_eq!(rt; (tail.entry, tail.answers.as_slice()), (3, [Answer::After].as_slice()));
+    assert_eq!(rt;
+        (tail.entry, tail.answers.as_slice()),
+        (3, [Answer::After].as_slice())
+    );
     assert_eq!(rt; run.middle.told.len(), 0);
-    assert_eq!(rt; (run.head.journal.len(), run.middle.journal.len(), run.tail.journal.len()), (3, 3, 3));
+    assert_eq!(rt;
+        (
+            run.head.journal.len(),
+            run.middle.journal.len(),
+            run.tail.journal.len()
+        ),
+        (3, 3, 3)
+    );
     Ok(())
 }
 

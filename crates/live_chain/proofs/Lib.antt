@@ -1,0 +1,4 @@
+mod RingLemmas
+mod NodeLemmas
+mod ToldLemmas
+mod ChainLemmas
