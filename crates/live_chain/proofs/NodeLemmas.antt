@@ -16,59 +16,8 @@ use Rattle.live_chain.specs.declared.ring.Passed.TheVariants.{Next, End}
 use Rattle.rtrb.specs.Ring.{sent, received, known_free, SameProducer, SameConsumer, IsPair}
 use Rattle.live_chain.specs.Rings.{Into, From, passed, counts_to, HasPlace, HasPlaces, WasSent, IsCopyFor, PassesOn, SameNext, LeadsTo}
 
-pub same_producer : (a b c : Into) → SameProducer a b → SameProducer b c → SameProducer a c
-same_producer a b c one other = (
-  (other.0.0 ∙ one.0.0, other.0.1 ∙ one.0.1, other.0.2 ∙ one.0.2, other.0.3 ∙ one.0.3),
-  other.1 ∙ one.1,
-)
-
-pub same_consumer : (a b c : From) → SameConsumer a b → SameConsumer b c → SameConsumer a c
-same_consumer a b c one other = (
-  (other.0.0 ∙ one.0.0, other.0.1 ∙ one.0.1, other.0.2 ∙ one.0.2, other.0.3 ∙ one.0.3),
-  other.1 ∙ one.1,
-)
-
--- both ends are still of one ring
-pub pair_stays : (a b : Into) (c d : From) → IsPair a c → SameProducer a b → SameConsumer c d → IsPair b d
-pair_stays a b c d pair into from = (
-  from.0.0 ∙ pair.0 ∙ sym into.0.0,
-  from.0.1 ∙ pair.1 ∙ sym into.0.1,
-  from.0.2 ∙ pair.2 ∙ sym into.0.2,
-  from.0.3 ∙ pair.3 ∙ sym into.0.3,
-)
-
-pub same_next-refl : (a : Option Into) → SameNext a a
-same_next-refl None = tt
-same_next-refl (Some ring) = ((refl, refl, refl, refl), refl)
-
-pub same_next : (a b c : Option Into) → SameNext a b → SameNext b c → SameNext a c
-same_next None None None one other = tt
-same_next None None (Some r) one other = absurd other
-same_next None (Some q) c one other = absurd one
-same_next (Some p) None c one other = absurd one
-same_next (Some p) (Some q) None one other = absurd other
-same_next (Some p) (Some q) (Some r) one other = same_producer p q r one other
-
-pub leads_still : (a b : Option Into) (c d : From) → LeadsTo a c → SameNext a b → SameConsumer c d → LeadsTo b d
-leads_still None None c d leads into from = absurd leads
-leads_still None (Some q) c d leads into from = absurd leads
-leads_still (Some p) None c d leads into from = absurd into
-leads_still (Some p) (Some q) c d leads into from = pair_stays p q c d leads into from
-
-pub place_of : (n : ℕ) (a : Option Into) → HasPlaces n a → 0 < n → HasPlace a
-place_of n None has some = tt
-place_of n (Some ring) has some = omega (arith, has, some)
-
-pub passes_same : (a b : Option Into) (item : Option Passed) → PassesOn a item b → SameNext a b
-passes_same None None item on = tt
-passes_same None (Some q) item on = absurd on
-passes_same (Some p) None None on = absurd on
-passes_same (Some p) None (Some item) on = absurd on
-passes_same (Some p) (Some q) None on = subst (λ (r : Into). SameProducer p r) (sym on) ((refl, refl, refl, refl), refl)
-passes_same (Some p) (Some q) (Some item) on = on.0
-
 -- one place fewer
-pub places_less : (a b : Option Into) (item : Option Passed) (n k : ℕ) → PassesOn a item b → HasPlaces n a → k + 1 ≤ n → HasPlaces k b
+places_less : (a b : Option Into) (item : Option Passed) (n k : ℕ) → PassesOn a item b → HasPlaces n a → k + 1 ≤ n → HasPlaces k b
 places_less None None item n k on has less = tt
 places_less None (Some q) item n k on has less = absurd on
 places_less (Some p) None None n k on has less = absurd on
@@ -77,7 +26,7 @@ places_less (Some p) (Some q) None n k on has less = subst (λ (r : Into). k ≤
 places_less (Some p) (Some q) (Some item) n k on has less = omega (arith, has, less, on.2)
 
 -- one entry more was pushed
-pub sent_more : (a b : Option Into) (entry : Entry) (copy : Option Passed) (items : List Passed) → IsCopyFor a entry copy → PassesOn a copy b
+sent_more : (a b : Option Into) (entry : Entry) (copy : Option Passed) (items : List Passed) → IsCopyFor a entry copy → PassesOn a copy b
     → WasSent items a → WasSent (items ++ Next entry ∷ []) b
 sent_more None None entry copy items is on was = tt
 sent_more None (Some q) entry copy items is on was = absurd on
@@ -87,13 +36,6 @@ sent_more (Some p) (Some q) entry None items is on was = absurd (cc)
 sent_more (Some p) (Some q) entry (Some item) items is on was =
     let same : item ≡ Next entry = cc in
     on.1 ∙ ap (λ l. l ++ item ∷ []) was ∙ ap (λ i. items ++ i ∷ []) same
-
--- the end mark was pushed
-pub sent_end : (a b : Option Into) (items : List Passed) → PassesOn a (Some End) b → WasSent items a → WasSent (items ++ End ∷ []) b
-sent_end None None items on was = tt
-sent_end None (Some q) items on was = absurd on
-sent_end (Some p) None items on was = absurd on
-sent_end (Some p) (Some q) items on was = on.1 ∙ ap (λ l. l ++ End ∷ []) was
 
 -- a node that has applied, noted, passed on and counted the entry that it was passed
 pub node_takes : (old new : Node) (entry : Entry) (copy : Option Passed) (place : ℕ) (reply : Reply) (reserved : List DoneEntry) → HasPopped old entry

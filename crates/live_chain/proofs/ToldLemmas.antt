@@ -63,13 +63,6 @@ answered_more old new queries query told has all known least is =
       last = omega (arith, ap (last_told 0) all, last_told-push 0 old.told told, entry);
     }
 
--- a query is one of the node, or it is none
+-- a query of the node
 pub own_query-own : (node : ℕ) (query : ChainQuery) → query.node ≡ node → own_query node query ≡ query ∷ []
 own_query-own node query same = rw (eq-eqb query.node node same) refl
-
-pub own_query-other : (node : ℕ) (query : ChainQuery) → query.node ≢ node → own_query node query ≡ []
-own_query-other node query apart = by_test (query.node == node) refl
-  where
-    by_test : (test : Bool) → (query.node == node) ≡ test → own_query node query ≡ []
-    by_test true is = absurd (apart (eqb-true query.node node is))
-    by_test false is = rw is refl

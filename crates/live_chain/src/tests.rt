@@ -89,28 +89,20 @@ fn run_text<R: Threads + Wait + Sync, G: Gate + Sync>(
     Ok(run_chain(rt, alloc, &plan, gate)?)
 }
 
+// After how many entries the node's first query was answered, and the answer to its first pair.
+fn first_told(node: &ChainNode) -> Option<(u64, Option<Answer>)> {
+    let told = node.told.get(0)?;
+    Some((told.entry, told.answers.get(0).copied()))
+}
+
 #[test]
 fn both_ends_tell_of_one_order(rt: HostRuntime) -> Result<(), Fail> {
     let run = run_text(&rt, rt.alloc(), BOTH_ENDS, &OpenGate)?;
-    let head = &run.head.told.as_slice()[0];
-    assert_eq!(rt;
-        (head.entry, head.answers.as_slice()),
-        (3, [Answer::Before].as_slice())
-    );
-    let tail = &run.tail.told.as_slice()[0];
-    assert_eq!(rt;
-        (tail.entry, tail.answers.as_slice()),
-        (3, [Answer::After].as_slice())
-    );
-    assert_eq!(rt; run.middle.told.len(), 0);
-    assert_eq!(rt;
-        (
-            run.head.journal.len(),
-            run.middle.journal.len(),
-            run.tail.journal.len()
-        ),
-        (3, 3, 3)
-    );
+    assert_eq!(rt; first_told(&run.head), Some((3, Some(Answer::Before))));
+    assert_eq!(rt; first_told(&run.middle), None);
+    assert_eq!(rt; first_told(&run.tail), Some((3, Some(Answer::After))));
+    assert_eq!(rt; run.head.journal.len(), 3);
+    assert_eq!(rt; run.tail.journal.len(), 3);
     Ok(())
 }
 
