@@ -6,3 +6,5 @@
 
 #[cfg(test)]
 mod script;
+#[cfg(test)]
+mod writes;

@@ -32,8 +32,8 @@ struct Ended {
     written: Vec<u8>,
 }
 
-// The text of the script, at which no test has to look.
-fn script() -> &'static [u8] {
+/// The text of the script, at which no test has to look.
+pub fn script() -> &'static [u8] {
     SCRIPT
 }
 
@@ -42,8 +42,8 @@ fn transcript() -> &'static [u8] {
     TRANSCRIPT
 }
 
-// The word that asks for a script.
-fn words(alloc: Global) -> Result<Vec<RcStr>, AllocError> {
+/// The word that asks for a script.
+pub fn words(alloc: Global) -> Result<Vec<RcStr>, AllocError> {
     let mut words = Vec::new(alloc);
     let Ok(()) = words.push(RcStr::from_str(alloc, "script")?) else {
         return Err(AllocError);
