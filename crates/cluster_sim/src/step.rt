@@ -5,7 +5,7 @@ mod packets;
 mod turns;
 mod views;
 
-ghost use Rattle.std.specs.Prelude.{◌≡◌, ◌^◌, ◌-◌, IfOk, None, All};
+ghost use Rattle.std.specs.Prelude.{◌≡◌, ◌^◌, ◌-◌, IfOk, OnErr, None, All};
 ghost use Rattle.kr_world.specs.Sound.{HaveBegun};
 ghost use Rattle.kr_world.specs.Step.{refusal_of, act, step as world_step};
 ghost use Rattle.script_lang.specs.Event.{IsEvent};
@@ -55,7 +55,7 @@ fn act<R: Threads + Sync>(
     }
 }
 
-/// Does what the event does to the parts, and answers what is to be noted of it.
+/// Does what the event does to the parts, and answers what is to be noted of it. A step that is refused takes no memory.
 pub fn step<R: Threads + Sync>(
     rt: &R,
     alloc: Global,
@@ -65,7 +65,8 @@ pub fn step<R: Threads + Sync>(
     requires rest { IsAtRest parts.old }
     requires event { IsEvent event.now }
     requires few { HaveBegun (2 ^ 63 - 1) (world_of parts.old).clients }
-    ensures { IfOk result (Makes (world_step (world_of parts.old) event.now) parts.old.bag.before parts.new) }
+    ensures ok { IfOk result (Makes (world_step (world_of parts.old) event.now) parts.old.bag.before parts.new) }
+    ensures memory { OnErr result (refusal_of (world_of parts.old) event.now ≡ None) }
 {
     match refusal(parts, event) {
         Some(why) => Ok(Noted {

@@ -20,4 +20,4 @@ invariant_of-self-2 g c = λ _.
 pub returns : goal.returns
 returns g c =
     let inside = c.self.inside in
-    does_step c.args.self.now inside.parts c.step.new.parts inside.failed inside.befores c.begin.new.self c.args.event.now c.in_ok-noted.noted c.len-entries.result c.args.lines.now.items c.put_step.new.out.items c.saturating_add-self-inside.result c.self.view_is c.if-self.false c.begin.ensures c.len-entries.ensures c.in_ok-noted.ensures c.in_ok-put_step.ensures (c.saturating_add-self-inside.ensures ∙ ap (λ n. min (inside.befores + n) 18446744073709551615) c.befores.ensures)
+    does_step c.args.self.now inside.parts c.step.new.parts inside.failed inside.befores c.begin.new.self c.args.event.now c.in_ok-noted.noted c.len-entries.result c.args.lines.now.items c.put_step.new.out.items c.saturating_add-self-inside.result c.self.view_is c.if-self.false c.begin.ensures c.len-entries.ensures c.in_ok-noted.ensures.ok c.in_ok-put_step.ensures (c.saturating_add-self-inside.ensures ∙ ap (λ n. min (inside.befores + n) 18446744073709551615) c.befores.ensures)
