@@ -15,7 +15,7 @@ invariant_of-self-2 g c = λ _.
     let bag = c.begin.new.self in
     let ready = begun_ready inside.parts bag inside.settled c.begin.ensures (c.self.invariant c.if-self.false) in
     let few = subst (λ (s : ClusterStanding). HaveBegun (2 ^ 63 - 1) s.world.clients) (sym c.self.view_is) c.requires.few in
-    ready_after (record inside.parts { bag = bag }) c.step.new.parts inside.settled c.args.event.now bag.before c.in_ok-noted.noted ready few c.requires.event c.in_ok-noted.ensures
+    ready_after (record inside.parts { bag = bag }) c.step.new.parts inside.settled c.args.event.now bag.before c.in_ok-noted.noted ready few c.requires.event c.in_ok-noted.ensures.ok
 
 pub returns : goal.returns
 returns g c =
