@@ -1,6 +1,6 @@
 //! What one look at pairs adds to the events that a search has found.
 
-ghost use Rattle.std.specs.Prelude.{◌≡◌, ◌<◌, ◌≤◌, ◌+◌, ◌&&◌, ◌==◌, true, false, length, Some, IsSome};
+ghost use Rattle.std.specs.Prelude.{◌≡◌, ◌<◌, ◌≤◌, ◌+◌, ◌&&◌, ◌==◌, true, false, length, Some, IsSome, IfSome};
 ghost use Rattle.std.specs.List.{All};
 ghost use Rattle.kr_order.specs.Prefix.{IsPrefix};
 ghost use Rattle.dep_graph.specs.GraphView.{is_held, event_at};
@@ -54,11 +54,42 @@ pub fn follow<L: Ledger>(
     false
 }
 
-// Follows the pair where its first event was found, unless it leads to the goal. Whether it does.
-fn follow_pair(graph: &Graph, pair: &(EventId, EventId), found: &mut Found, goal: EventId) -> bool
+// Whether the pair's first event was found. It is not looked up where it is an event that is known to be.
+fn has_first(
+    graph: &Graph,
+    pair: &(EventId, EventId),
+    found: &Found,
+    known: Option<EventId>,
+) -> bool
+    requires fits { length graph.now.slots ≤ found.now.room }
+    requires held { AreHeld graph.now.vertices pair.now }
+    requires placed { ArePlaced graph.now.slots found.now.cells }
+    requires known { IfSome known (λ event. is_in (events_in graph.now found.now) event.0 ≡ true) }
+    ensures { result ≡ is_in (events_in graph.now found.now) pair.now.0.0 }
+{
+    graph.recall_graph();
+    if let Some(event) = known {
+        if event.0 == pair.0.0 {
+            return true;
+        }
+    }
+    let first = cell_of(graph, pair.0);
+    found.has(first)
+}
+
+// Follows the pair where its first event was found, unless it leads to the goal. Whether it does. That event is known to be
+// found from then on.
+fn follow_pair(
+    graph: &Graph,
+    pair: &(EventId, EventId),
+    found: &mut Found,
+    known: &mut Option<EventId>,
+    goal: EventId,
+) -> bool
     requires fits { length graph.now.slots ≤ found.old.room }
     requires held { AreHeld graph.now.vertices pair.now }
     requires placed { ArePlaced graph.now.slots found.old.cells }
+    requires known { IfSome known.old (λ event. is_in (events_in graph.now found.old) event.0 ≡ true) }
     ensures value { result
         ≡ (is_in (events_in graph.now found.old) pair.now.0.0 && pair.now.1.0 == goal.0) }
     ensures found { result ≡ false
@@ -66,12 +97,13 @@ fn follow_pair(graph: &Graph, pair: &(EventId, EventId), found: &mut Found, goal
     ensures front { IsPrefix found.old.cells found.new.cells }
     ensures placed { ArePlaced graph.now.slots found.new.cells }
     ensures room { found.new.room ≡ found.old.room }
+    ensures known { IfSome known.new (λ event. is_in (events_in graph.now found.new) event.0 ≡ true) }
 {
     graph.recall_graph();
-    let first = cell_of(graph, pair.0);
-    if !found.has(first) {
+    if !has_first(graph, pair, found, *known) {
         return false;
     }
+    *known = Some(pair.0);
     if pair.1.0 == goal.0 {
         return true;
     }
@@ -104,9 +136,10 @@ pub fn follow_each<L: Ledger>(
     ensures most { steps.new ≤ steps.old + length pairs.now }
     ensures each { result ≡ false → steps.new ≡ steps.old + length pairs.now }
 {
+    let mut known = None;
     for pair in pairs {
         steps.tick();
-        if follow_pair(graph, pair, found, goal) {
+        if follow_pair(graph, pair, found, &mut known, goal) {
             return true;
         }
     }

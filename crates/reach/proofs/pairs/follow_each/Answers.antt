@@ -36,6 +36,7 @@ loop-pair-preserved g c =
       led = IsLedOn-more (numbered pairs) slots c.args.goal.0 c.args.found.now.cells c.loop-pair.found.cells c.follow_pair.new.found.cells i (0, 0) (omega (arith, length-numbered pairs)) unmet found c.follow_pair.ensures.front c.follow_pair.ensures.placed c.loop-pair.invariant.led;
       steps = omega (arith, c.loop-pair.invariant.steps);
       room = c.follow_pair.ensures.room ∙ c.loop-pair.invariant.room;
+      known = c.follow_pair.ensures.known;
     }
 
 pub returns-clause-followed : goal.returns-clause-followed
