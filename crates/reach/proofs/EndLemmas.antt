@@ -1,9 +1,9 @@
 -- Where a search ends: what it has found is what is behind its event, and its steps are few.
-use Rattle.std.proofs.Common.{◌≡◌, ℕ, ◌+◌, ◌*◌, ◌<◌, ◌≤◌, Bool, true, false, cond, eqb, ◌&&◌, ◌||◌, List, [], ◌∷◌, ◌++◌, length, map, take, get_or, refl, sym, ap, ◌∙◌, subst, inl, inr, arith, length-append, mul-add, mul-le-mul_right, mul-one}
+use Rattle.std.proofs.Common.{◌≡◌, ℕ, ◌+◌, ◌*◌, ◌<◌, ◌≤◌, Bool, true, false, cond, eqb, ◌&&◌, ◌||◌, ◌⊎◌, List, [], ◌∷◌, ◌++◌, length, map, take, get_or, refl, sym, ap, ◌∙◌, subst, inl, inr, arith, length-append, mul-add, mul-le-mul_right, mul-one}
 use native.Mathlib.Numerals.{unary_clauses}
-use Rattle.std.specs.Prelude.{Some, IsSome, is_some, unwrap_or, reverse}
+use Rattle.std.specs.Prelude.{Option, Some, IsSome, is_some, unwrap_or, reverse}
 use Rattle.std.specs.List.{All, AllByRecursion, IsDistinct, filter, sum_by}
-use Rattle.std.proofs.lemmas.Bool.{and_parts, both_ways, eq-eqb, eqb-true, false_from_ne_true, or_cases, or_left}
+use Rattle.std.proofs.lemmas.Bool.{and_parts, both_ways, eq-eqb, eqb-true, false_from_ne_true, or_cases, or_left, or_right}
 use Rattle.std.proofs.lemmas.Cmp.{nat_eq_equiv}
 use Rattle.std.proofs.lemmas.List.{get_or-append-add, get_or-map, length-map, length-reverse, take_all}
 use Rattle.std.proofs.lemmas.List.Folds.{list_any_at}
@@ -12,12 +12,12 @@ use Rattle.std.proofs.lemmas.List.Sums.{sum_by-cons}
 use Rattle.std.proofs.lemmas.Map.Made.{length-le_from_is_member}
 use Rattle.kr_order.specs.Prefix.{IsPrefix}
 use Rattle.kr_order.specs.Order.{reach}
-use Rattle.kr_order.proofs.PrefixLemmas.{IsPrefix-append, IsPrefix-length, IsPrefix-map, IsPrefix-trans, take_front}
+use Rattle.kr_order.proofs.PrefixLemmas.{IsPrefix-append, IsPrefix-refl, IsPrefix-length, IsPrefix-map, IsPrefix-trans, take_front}
 use Rattle.kr_order.proofs.PathLemmas.{leads}
 use Rattle.kr_order.proofs.OrderLemmas.{reach-path, reach_more, reach_pair}
 use Rattle.dep_graph.specs.GraphView.{GraphView, IsGraph, is_held, event_at, outs_of}
 use Rattle.reach.specs.Finds.{is_in}
-use Rattle.reach.specs.Walk.{event_of, events_of, ArePlaced, AreFrom, AreSaid, LeadsTo, Meets, IsFoundBefore, IsFollowed, AreFollowed, steps_of}
+use Rattle.reach.specs.Walk.{event_of, events_of, ArePlaced, AreFrom, AreSaid, LeadsTo, Meets, IsFoundBefore, IsFollowed, AreFollowed, IsUnderWay, IsLed, IsKept, steps_of}
 use Rattle.reach.proofs.MemberLemmas.{eqb-sym, is_in-all, is_in-map_from, is_in-more, times-distinct, All-reverse}
 use Rattle.reach.proofs.CellLemmas.{event_at-some, IsDistinct-events, ArePlaced-one}
 
@@ -117,16 +117,6 @@ steps_of-le graph cells is placed =
     split outs [] = refl
     split outs (v ∷ vs) = omega (arith, sum_by-cons (λ w. outs w + 1) v vs, sum_by-cons outs v vs, split outs vs)
 
--- the search has followed the pairs of the first i events that it found, and where these are all, the extra pairs too
-pub record IsUnderWay (graph : GraphView) (extra : List (ℕ × ℕ)) (a goal : ℕ) (cells : List ℕ) (i : ℕ) : Type 0 where
-  pub behind : AreFrom (graph.pairs ++ extra) a (events_of graph.slots cells)
-  pub start : is_in (events_of graph.slots cells) a ≡ true
-  pub followed : AreFollowed graph.pairs goal (take i (events_of graph.slots cells)) (events_of graph.slots cells)
-  pub extra_followed : length cells ≤ i → AreFollowed extra goal (events_of graph.slots cells) (events_of graph.slots cells)
-  pub placed : ArePlaced graph.slots cells
-  pub within : i ≤ length cells
-  pub some : 0 < length cells
-
 -- the pairs in front and those behind them are said by all of them
 said_front : (pairs extra : List (ℕ × ℕ)) → AreSaid (pairs ++ extra) pairs
 said_front pairs extra k d below = reach_more pairs (pairs ++ extra) (get_or pairs k d).0 (get_or pairs k d).1 (IsPrefix-append pairs extra) (reach_pair pairs k d below)
@@ -221,4 +211,76 @@ reach-source order a goal none = never_reached order a goal (a ∷ seconds) foll
                 there = list_any_at (eqb (get_or order k d).1) (a ∷ seconds) (k + 1) d.1 (omega (arith, below, length-map order (λ (pair : ℕ × ℕ). pair.1))) (eq-eqb (get_or order k d).1 (get_or (a ∷ seconds) (k + 1) d.1) (sym (behind d.1 k ∙ get_or-map (λ (pair : ℕ × ℕ). pair.1) order k d d.1 below)));
                 other = none k d below;
               };
+        }
+
+-- a search that ended has found all that the graph's pairs lead to
+pub IsKept-ended : (graph : GraphView) (extra : List (ℕ × ℕ)) (a goal : ℕ) (cells : List ℕ) (i : ℕ) → length cells ≤ i → IsUnderWay graph extra a goal cells i → IsKept graph (graph.pairs ++ extra) a cells
+IsKept-ended graph extra a goal cells i all was =
+    let events = events_of graph.slots cells in
+    let whole : take i events ≡ events = take_all i events (omega (arith, length-map cells (event_of graph.slots))) in
+    let followed : AreFollowed graph.pairs goal events events = subst (λ es. AreFollowed graph.pairs goal es events) whole was.followed in
+    record {
+      behind = was.behind;
+      start = was.start;
+      closed = λ k d below. record { on = λ is. ((followed k d below).on is).there };
+      placed = was.placed;
+    }
+
+-- it stays so where the order has more pairs
+pub IsKept-more : (graph : GraphView) (order longer : List (ℕ × ℕ)) (a : ℕ) (cells : List ℕ) → IsPrefix order longer → IsKept graph order a cells → IsKept graph longer a cells
+IsKept-more graph order longer a cells front was =
+    record {
+      behind = record { each = λ event is. by_cases event (or_cases (eqb a event) (reach order a event) (was.behind.each event is)) };
+      start = was.start;
+      closed = was.closed;
+      placed = was.placed;
+    }
+  where
+    by_cases : (event : ℕ) → (eqb a event ≡ true) ⊎ (reach order a event ≡ true) → (eqb a event || reach longer a event) ≡ true
+    by_cases event (inl same) = or_left (eqb a event) (reach longer a event) same
+    by_cases event (inr path) = or_right (eqb a event) (reach longer a event) (reach_more order longer a event front path)
+
+-- an event that was found, and is another one, is behind a
+pub reach-kept : (graph : GraphView) (order : List (ℕ × ℕ)) (a goal : ℕ) (cells : List ℕ) → IsKept graph order a cells → is_in (events_of graph.slots cells) goal ≡ true → eqb a goal ≡ false → reach order a goal ≡ true
+reach-kept graph order a goal cells was there other =
+    ap (λ test. test || reach order a goal) (sym other) ∙ was.behind.each goal there
+
+-- so is what an extra pair leads to
+pub reach-kept_extra : (graph : GraphView) (extra : List (ℕ × ℕ)) (a goal : ℕ) (cells : List ℕ) → IsKept graph (graph.pairs ++ extra) a cells → Meets extra (events_of graph.slots cells) goal → reach (graph.pairs ++ extra) a goal ≡ true
+reach-kept_extra graph extra a goal cells was met = met.from (graph.pairs ++ extra) a (said_behind graph.pairs extra) was.behind
+
+-- there is a cell where an event was found
+pub some_found : (slots : List (Option ℕ)) (a : ℕ) (cells : List ℕ) → is_in (events_of slots cells) a ≡ true → 0 < length cells
+some_found slots a [] never = cc
+some_found slots a (c ∷ cs) _ = omega arith
+
+-- the search can be gone on with, for a goal that was not found, once the extra pairs were followed
+pub IsUnderWay-kept : (graph : GraphView) (extra : List (ℕ × ℕ)) (a goal : ℕ) (cells new : List ℕ) (n : ℕ) → IsKept graph (graph.pairs ++ extra) a cells → is_in (events_of graph.slots cells) goal ≡ false → LeadsTo extra (events_of graph.slots cells) (events_of graph.slots new) → (length new ≡ length cells → AreFollowed extra goal (events_of graph.slots new) (events_of graph.slots new)) → IsPrefix cells new → ArePlaced graph.slots new → n ≡ length cells → IsUnderWay graph extra a goal new n
+IsUnderWay-kept graph extra a goal cells new n was out extra_leads extra_followed front placed size =
+    IsUnderWay-more graph extra a goal cells cells new 0 n begun (record { from = λ order b said behind. behind }) followed (IsPrefix-refl cells) extra_leads extra_followed front placed size
+  where
+    events : List ℕ
+    events = events_of graph.slots cells
+
+    other : (event : ℕ) → is_in events event ≡ true → eqb event goal ≡ false
+    other event there = false_from_ne_true (eqb event goal) (λ same. both_ways (is_in events goal) out (subst (λ e. is_in events e ≡ true) (eqb-true event goal same) there))
+
+    followed : AreFollowed graph.pairs goal events events
+    followed k d below =
+        record {
+          on = λ is.
+              let there = (was.closed k d below).on is in
+              record { there = there; other = other (get_or graph.pairs k d).1 there };
+        }
+
+    begun : IsUnderWay graph extra a goal cells 0
+    begun =
+        record {
+          behind = was.behind;
+          start = was.start;
+          followed = λ k d below. record { on = λ never. cc };
+          extra_followed = λ none. absurd (omega (arith, none, some_found graph.slots a cells was.start));
+          placed = was.placed;
+          within = omega arith;
+          some = some_found graph.slots a cells was.start;
         }

@@ -3,3 +3,4 @@ pub mod FoundLemmas
 pub mod CellLemmas
 pub mod WalkLemmas
 pub mod EndLemmas
+pub mod TrailLemmas

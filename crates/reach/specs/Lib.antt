@@ -1,3 +1,4 @@
 pub mod Finds
 pub mod Search
+pub mod Trails
 pub mod Walk

@@ -1,5 +1,5 @@
 -- What a search has come to: the events that it has found, and what is known of the pairs that it has looked at.
-use Rattle.std.specs.Prelude.{◌≡◌, ◌+◌, ℕ, true, false, ◌||◌, ◌==◌, if◌then◌else◌, Option, IsSome, unwrap_or, List, length, map, nat_eq}
+use Rattle.std.specs.Prelude.{◌≡◌, ◌+◌, ◌<◌, ◌≤◌, ◌++◌, ℕ, true, false, ◌||◌, ◌==◌, if◌then◌else◌, Option, IsSome, unwrap_or, List, length, map, nat_eq}
 use Rattle.std.specs.Prelude.{sum_by, take}
 use Rattle.std.specs.List.{All, IsDistinct}
 use Rattle.kr_order.specs.Order.{reach}
@@ -59,6 +59,27 @@ pub record IsFollowed (goal : ℕ) (taken found : List ℕ) (pair : ℕ × ℕ) 
 -- so it is for all pairs
 abbrev pub AreFollowed : List (ℕ × ℕ) → ℕ → List ℕ → List ℕ → Type 0
 AreFollowed pairs goal taken found = All (IsFollowed goal taken found) pairs
+
+-- the search has followed the pairs of the first i events that it found, and where these are all, the extra pairs too
+pub record IsUnderWay (graph : GraphView) (extra : List (ℕ × ℕ)) (a goal : ℕ) (cells : List ℕ) (i : ℕ) : Type 0 where
+  pub behind : AreFrom (graph.pairs ++ extra) a (events_of graph.slots cells)
+  pub start : is_in (events_of graph.slots cells) a ≡ true
+  pub followed : AreFollowed graph.pairs goal (take i (events_of graph.slots cells)) (events_of graph.slots cells)
+  pub extra_followed : length cells ≤ i → AreFollowed extra goal (events_of graph.slots cells) (events_of graph.slots cells)
+  pub placed : ArePlaced graph.slots cells
+  pub within : i ≤ length cells
+  pub some : 0 < length cells
+
+-- the pair's second event was found, if its first was
+pub record IsLed (found : List ℕ) (pair : ℕ × ℕ) : Type 0 where
+  pub on : is_in found pair.0 ≡ true → is_in found pair.1 ≡ true
+
+-- what was found is a, and what lies behind it in the order; and all that the graph's pairs lead to from there was found
+pub record IsKept (graph : GraphView) (order : List (ℕ × ℕ)) (a : ℕ) (cells : List ℕ) : Type 0 where
+  pub behind : AreFrom order a (events_of graph.slots cells)
+  pub start : is_in (events_of graph.slots cells) a ≡ true
+  pub closed : All (IsLed (events_of graph.slots cells)) graph.pairs
+  pub placed : ArePlaced graph.slots cells
 
 -- the steps for events that are taken up, one for each, and their pairs, one for each
 abbrev pub steps_of : List (ℕ × ℕ) → List ℕ → ℕ

@@ -9,7 +9,9 @@ mod found;
 mod pairs;
 mod scratch;
 mod search;
+mod trail;
 
 pub use asks::Asks;
 pub use scratch::Scratch;
 pub use search::{answer_over, reaches, reaches_with};
+pub use trail::Trail;

@@ -2,13 +2,15 @@
 //!
 //! Contracts see a `Scratch` as its room: how many cells a graph may have that is searched with it.
 
-ghost use Rattle.std.specs.Prelude.{◌≡◌, ◌≤◌, length, OnOk, OnErr};
+ghost use Rattle.std.specs.Prelude.{◌≡◌, ◌≤◌, None, length, OnOk, OnErr};
 
+use crate::Trail;
 use crate::found::Found;
 use dep_graph::Graph;
 use kr_order::NoMemory;
 use std::alloc::Global;
 use std::marker::Model;
+use std::mem::replace;
 
 /// The memory of a search, which one search after another can use.
 #[derive(Debug, Drop)]
@@ -41,5 +43,23 @@ impl Scratch {
         ensures err { OnErr result (self.new ≡ self.old) }
     {
         self.found.fit(graph.cells())
+    }
+
+    /// Makes a trail of its room; give it back by `take_back`. It takes no memory.
+    pub fn lend(&mut self, alloc: Global) -> Trail
+        ensures room { result.room ≡ self.old }
+        ensures from { result.from ≡ None }
+    {
+        Trail {
+            found: replace(&mut self.found, Found::new(alloc)),
+            from: None,
+        }
+    }
+
+    /// Takes the room of a trail.
+    pub fn take_back(&mut self, trail: Trail)
+        ensures { self.new ≡ trail.room }
+    {
+        self.found = trail.found;
     }
 }

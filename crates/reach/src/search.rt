@@ -7,7 +7,8 @@ ghost use Rattle.kr_order.specs.Order.{reach};
 ghost use Rattle.kr_order.specs.Answer.{answer_over};
 ghost use Rattle.dep_graph.specs.GraphView.{is_held};
 ghost use Rattle.reach.specs.Search.{numbered, AreHeld};
-ghost use Rattle.reach.specs.Walk.{events_in, ArePlaced, LeadsTo, Meets, AreFollowed, steps_before, steps_in};
+ghost use Rattle.reach.specs.Finds.{is_in};
+ghost use Rattle.reach.specs.Walk.{events_in, ArePlaced, LeadsTo, Meets, AreFollowed, IsUnderWay, IsKept, steps_before, steps_in};
 
 use crate::Scratch;
 use crate::found::Found;
@@ -69,16 +70,51 @@ fn lead_to(pairs: &[(EventId, EventId)], goal: EventId) -> bool
 }
 
 // Whether no pair leads to the goal: neither one of the graph nor one of the others.
-fn is_source(graph: &Graph, extra: &[(EventId, EventId)], goal: EventId) -> bool
+pub(crate) fn is_source(graph: &Graph, extra: &[(EventId, EventId)], goal: EventId) -> bool
     requires { is_held graph.now.vertices goal.0 ≡ true }
     ensures { result ≡ true → (a : ℕ) → reach (graph.now.pairs ++ numbered extra.now) a goal.0 ≡ false }
 {
     graph.in_count(goal) == 0 && !lead_to(extra, goal)
 }
 
-// Searches for a path of the graph's pairs and of more from `a` to `b`. The graph's pairs are searched first; where
-// they end, each of the others is followed once, and where one finds an event, the search goes on from there.
-fn walk<L: Ledger>(
+// Goes on with a search for a path of the graph's pairs and of more from `a` to `b`. The graph's pairs are searched first;
+// where they end, each of the others is followed once, and where one finds an event, the search goes on from there.
+fn walk_on<L: Ledger>(
+    graph: &Graph,
+    extra: &[(EventId, EventId)],
+    found: &mut Found,
+    from: usize,
+    a: EventId,
+    b: EventId,
+    steps: &mut Steps<L>,
+) -> bool
+    requires fits { length graph.now.slots ≤ found.old.room }
+    requires extra { All (AreHeld graph.now.vertices) extra.now }
+    requires under_way { IsUnderWay graph.now (numbered extra.now) a.0 b.0 found.old.cells from }
+    ensures value { result ≡ reach (graph.now.pairs ++ numbered extra.now) a.0 b.0 }
+    ensures kept { result ≡ false → IsKept graph.now (graph.now.pairs ++ numbered extra.now) a.0 found.new.cells }
+    ensures least { steps.old ≤ steps.new }
+    ensures more { from < length found.old.cells → steps.old < steps.new }
+    ensures most { (start : ℕ) → steps.old ≤ start + steps_before graph.now found.old from + from * length extra.now
+        → steps.new ≤ start + (length graph.now.vertices * (1 + length extra.now) + length graph.now.pairs) }
+    ensures room { found.new.room ≡ found.old.room }
+{
+    graph.recall_graph();
+    let mut next = from;
+    while next < found.len() {
+        if search(graph, found, next, b, steps) {
+            return true;
+        }
+        next = found.len();
+        if follow_each(graph, extra, found, b, steps) {
+            return true;
+        }
+    }
+    false
+}
+
+// Searches for a path of the graph's pairs and of more from `a` to `b`.
+pub(crate) fn walk<L: Ledger>(
     graph: &Graph,
     extra: &[(EventId, EventId)],
     found: &mut Found,
@@ -90,25 +126,43 @@ fn walk<L: Ledger>(
     requires a { is_held graph.now.vertices a.0 ≡ true }
     requires extra { All (AreHeld graph.now.vertices) extra.now }
     ensures value { result ≡ reach (graph.now.pairs ++ numbered extra.now) a.0 b.0 }
+    ensures kept { result ≡ false → IsKept graph.now (graph.now.pairs ++ numbered extra.now) a.0 found.new.cells }
     ensures least { steps.old < steps.new }
     ensures most { steps.new
         ≤ steps.old + (length graph.now.vertices * (1 + length extra.now) + length graph.now.pairs) }
     ensures room { found.new.room ≡ found.old.room }
 {
-    graph.recall_graph();
     found.clear();
     found.add(cell_of(graph, a));
-    let mut next = 0;
-    while next < found.len() {
-        if search(graph, found, next, b, steps) {
-            return true;
-        }
-        next = found.len();
-        if follow_each(graph, extra, found, b, steps) {
-            return true;
-        }
+    walk_on(graph, extra, found, 0, a, b, steps)
+}
+
+// The same, where what lies behind `a` by the graph's pairs was found by an earlier search, and `b` was not.
+pub(crate) fn go_on<L: Ledger>(
+    graph: &Graph,
+    extra: &[(EventId, EventId)],
+    found: &mut Found,
+    a: EventId,
+    b: EventId,
+    steps: &mut Steps<L>,
+) -> bool
+    requires fits { length graph.now.slots ≤ found.old.room }
+    requires extra { All (AreHeld graph.now.vertices) extra.now }
+    requires kept { IsKept graph.now (graph.now.pairs ++ numbered extra.now) a.0 found.old.cells }
+    requires out { is_in (events_in graph.now found.old) b.0 ≡ false }
+    ensures value { result ≡ reach (graph.now.pairs ++ numbered extra.now) a.0 b.0 }
+    ensures kept { result ≡ false → IsKept graph.now (graph.now.pairs ++ numbered extra.now) a.0 found.new.cells }
+    ensures least { steps.old ≤ steps.new }
+    ensures most { steps.new
+        ≤ steps.old + (length graph.now.vertices * (1 + length extra.now) + length graph.now.pairs) }
+    ensures room { found.new.room ≡ found.old.room }
+{
+    graph.recall_graph();
+    let next = found.len();
+    if follow_each(graph, extra, found, b, steps) {
+        return true;
     }
-    false
+    walk_on(graph, extra, found, next, a, b, steps)
 }
 
 // Whether a path of the graph's pairs and of more leads from `a` to `b`. No event is taken up where no pair leads to `b`.
