@@ -1,9 +1,10 @@
 -- When a pair more can be added after others, and what is left to add after the first of them.
-use Rattle.std.proofs.Common.{◌≡◌, ℕ, Bool, true, false, eqb, ◌&&◌, List, [], ◌∷◌, ◌++◌, sym, subst, append_assoc}
+use Rattle.std.proofs.Common.{◌≡◌, ℕ, Bool, true, false, eqb, ◌&&◌, List, [], ◌∷◌, ◌++◌, sym, ap, ◌∙◌, subst, append_assoc}
 use Rattle.std.proofs.lemmas.Bool.{and_parts, both_ways, eqb-true, false_from_ne_true, or_parts}
 use Rattle.std.proofs.lemmas.List.{append-nil, map-append}
 use Rattle.std.proofs.lemmas.List.Elements.{All-push}
 use Rattle.std.proofs.lemmas.List.Folds.{Any-from_list_any}
+use Rattle.kr_order.specs.Prefix.{IsPrefix}
 use Rattle.kr_order.specs.declared.ids.EventId.{EventId}
 use Rattle.kr_order.specs.declared.batch.Pair.{Pair}
 use Rattle.kr_order.specs.Order.{reach}
@@ -44,4 +45,12 @@ CanBeAdded-push graph adds pair joined can allowed unsaid =
     record {
       held = All-push (AreHeld graph.vertices) adds (pair.first, pair.second) can.held (record { first = joined.first; second = joined.second });
       fits = subst (CanAddAll graph.vertices graph.pairs) (sym (map-append (λ (p : EventId × EventId). (p.0.0, p.1.0)) adds ((pair.first, pair.second) ∷ []))) (CanAddAll-push graph.vertices graph.pairs (numbered adds) pair.first.0 pair.second.0 can.fits one);
+    }
+
+-- the order begins with that of fewer pairs
+pub IsPrefix-order_with : (graph : GraphView) (adds : List (EventId × EventId)) (pair : EventId × EventId) → IsPrefix (order_with graph adds) (order_with graph (adds ++ pair ∷ []))
+IsPrefix-order_with graph adds pair =
+    record {
+      more = numbered (pair ∷ []);
+      is = ap (λ pairs. graph.pairs ++ pairs) (map-append (λ (p : EventId × EventId). (p.0.0, p.1.0)) adds (pair ∷ [])) ∙ sym (append_assoc graph.pairs (numbered adds) (numbered (pair ∷ [])));
     }

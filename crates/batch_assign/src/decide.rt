@@ -1,6 +1,6 @@
 //! What a batch is to do with the order, and why it may have to be refused.
 
-ghost use Rattle.std.specs.Prelude.{◌≡◌, ◌≤◌, ◌<◌, ◌+◌, length, IfOk, IfErr, IfSome};
+ghost use Rattle.std.specs.Prelude.{◌≡◌, ◌≤◌, ◌<◌, ◌+◌, None, length, IfOk, IfErr, IfSome};
 ghost use Rattle.kr_order.specs.Agreed.{first_unknown, both_live};
 ghost use Rattle.batch_assign.specs.Plan.{counted, LiveAreHeld, IsBatchHeld, IsChecked, IsRefused, IsPlan, IsStop, plan_most};
 
@@ -8,7 +8,7 @@ use crate::draft::{add_musts, add_prefers};
 use crate::{Adds, BatchStop, Plan};
 use dep_graph::Graph;
 use kr_order::{Batch, Pair, Steps};
-use reach::Scratch;
+use reach::{Scratch, Trail};
 use ref_collect::Refs;
 use std::alloc::Global;
 use std::sync::ledger::Ledger;
@@ -39,7 +39,35 @@ fn first_unknown(refs: &Refs, batch: &[Pair]) -> Option<u32>
     }
 }
 
-// The plan of a batch whose events all are held.
+// The plan of a batch whose events all are held, by searches that go on from one another.
+fn checked_by<L: Ledger>(
+    alloc: Global,
+    graph: &Graph,
+    batch: &[Pair],
+    trail: &mut Trail,
+    steps: &mut Steps<L>,
+) -> Result<Plan, BatchStop>
+    requires few { length batch.now ≤ 32 }
+    requires fits { length graph.now.slots ≤ trail.old.room }
+    requires begun { trail.old.from ≡ None }
+    requires held { IsBatchHeld graph.now.vertices batch.now }
+    ensures ok { IfOk result (IsChecked graph.now batch.now) }
+    ensures err { IfErr result (IsRefused graph.now batch.now) }
+    ensures room { trail.new.room ≡ trail.old.room }
+    ensures least { steps.old ≤ steps.new }
+    ensures most { steps.new ≤ steps.old + plan_most graph.now (length batch.now) }
+{
+    let mut adds = Adds::new(alloc);
+    match add_musts(graph, &mut adds, trail, batch, steps)? {
+        Some(i) => Err(BatchStop::Contradicts(i)),
+        None => {
+            let outcomes = add_prefers(alloc, graph, &mut adds, trail, batch, steps)?;
+            Ok(Plan { adds, outcomes })
+        }
+    }
+}
+
+// The same, in the scratch's room.
 fn checked<L: Ledger>(
     alloc: Global,
     graph: &Graph,
@@ -56,14 +84,10 @@ fn checked<L: Ledger>(
     ensures least { steps.old ≤ steps.new }
     ensures most { steps.new ≤ steps.old + plan_most graph.now (length batch.now) }
 {
-    let mut adds = Adds::new(alloc);
-    match add_musts(graph, &mut adds, scratch, batch, steps)? {
-        Some(i) => Err(BatchStop::Contradicts(i)),
-        None => {
-            let outcomes = add_prefers(alloc, graph, &mut adds, scratch, batch, steps)?;
-            Ok(Plan { adds, outcomes })
-        }
-    }
+    let mut trail = scratch.lend(alloc);
+    let plan = checked_by(alloc, graph, batch, &mut trail, steps);
+    scratch.take_back(trail);
+    plan
 }
 
 /// What the batch is to do. It changes nothing but the scratch's marks and the count of steps.

@@ -1,18 +1,20 @@
 //! The pairs that a batch is to add, as they are found one after the other. The order that counts for the next pair
-//! is that of the graph with the pairs that were found before.
+//! is that of the graph with the pairs that were found before. A search from the event of the last one, where that ended,
+//! goes on from what it found.
 
 ghost use Rattle.std.specs.Prelude.{◌≡◌, ◌≤◌, ◌+◌, ◌&&◌, true, false, length, IfOk, OnOk};
 ghost use Rattle.std.specs.List.{All};
 ghost use Rattle.kr_order.specs.Batch.{is_must, forbids, with_pair, with_must, with_prefer, musts_from, prefers_from, contradicts};
 ghost use Rattle.kr_order.specs.Batch.{outcome_of, outcomes_from};
 ghost use Rattle.reach.specs.Search.{AreHeld};
+ghost use Rattle.reach.specs.Trails.{IsTrail};
 ghost use Rattle.batch_assign.specs.Plan.{IsPairHeld, IsBatchHeld, order_with, CanBeAdded, search_most, twice_each, must_one, prefer_one};
 ghost use Rattle.batch_assign.specs.Plan.{musts_in, prefers_in};
 
 use crate::Adds;
 use dep_graph::Graph;
 use kr_order::{EventId, Kind, NoMemory, Outcome, Outcomes, Pair, Steps};
-use reach::{Scratch, reaches_with};
+use reach::Trail;
 use std::alloc::Global;
 use std::sync::ledger::Ledger;
 
@@ -20,49 +22,46 @@ use std::sync::ledger::Ledger;
 fn forbids<L: Ledger>(
     graph: &Graph,
     adds: &[(EventId, EventId)],
-    scratch: &mut Scratch,
+    trail: &mut Trail,
     pair: &Pair,
     steps: &mut Steps<L>,
 ) -> bool
-    requires fits { length graph.now.slots ≤ scratch.old }
+    requires fits { length graph.now.slots ≤ trail.old.room }
     requires pair { IsPairHeld graph.now.vertices pair.now }
     requires adds { All (AreHeld graph.now.vertices) adds.now }
+    requires trail { IsTrail graph.now (order_with graph.now adds.now) trail.old }
+    ensures trail { IsTrail graph.now (order_with graph.now adds.now) trail.new }
     ensures value { result ≡ forbids (order_with graph.now adds.now) pair.now }
-    ensures room { scratch.new ≡ scratch.old }
+    ensures room { trail.new.room ≡ trail.old.room }
     ensures least { steps.old ≤ steps.new }
     ensures most { steps.new ≤ steps.old + search_most graph.now (length adds.now) }
 {
     pair.first.0 == pair.second.0
-        || reaches_with(graph, adds, scratch, pair.second, pair.first, steps)
+        || trail.reaches(graph, adds, pair.second, pair.first, steps)
 }
 
 // Adds a pair that the order does not forbid, where no path says it already.
 fn add<L: Ledger>(
     graph: &Graph,
     adds: &mut Adds,
-    scratch: &mut Scratch,
+    trail: &mut Trail,
     pair: &Pair,
     steps: &mut Steps<L>,
 ) -> Result<(), NoMemory>
-    requires fits { length graph.now.slots ≤ scratch.old }
+    requires fits { length graph.now.slots ≤ trail.old.room }
     requires pair { IsPairHeld graph.now.vertices pair.now }
     requires adds { CanBeAdded graph.now adds.old }
+    requires trail { IsTrail graph.now (order_with graph.now adds.old) trail.old }
     requires allowed { forbids (order_with graph.now adds.old) pair.now ≡ false }
     ensures order { OnOk result (order_with graph.now adds.new ≡ with_pair (order_with graph.now adds.old) pair.now) }
     ensures adds { OnOk result (CanBeAdded graph.now adds.new) }
-    ensures room { scratch.new ≡ scratch.old }
+    ensures trail { OnOk result (IsTrail graph.now (order_with graph.now adds.new) trail.new) }
+    ensures room { trail.new.room ≡ trail.old.room }
     ensures grows { length adds.new ≤ length adds.old + 1 }
     ensures least { steps.old ≤ steps.new }
     ensures most { steps.new ≤ steps.old + search_most graph.now (length adds.old) }
 {
-    if !reaches_with(
-        graph,
-        adds.as_slice(),
-        scratch,
-        pair.first,
-        pair.second,
-        steps,
-    ) {
+    if !trail.reaches(graph, adds.as_slice(), pair.first, pair.second, steps) {
         adds.push((pair.first, pair.second))?;
     }
     Ok(())
@@ -72,19 +71,21 @@ fn add<L: Ledger>(
 fn add_must<L: Ledger>(
     graph: &Graph,
     adds: &mut Adds,
-    scratch: &mut Scratch,
+    trail: &mut Trail,
     pair: &Pair,
     steps: &mut Steps<L>,
 ) -> Result<bool, NoMemory>
-    requires fits { length graph.now.slots ≤ scratch.old }
+    requires fits { length graph.now.slots ≤ trail.old.room }
     requires pair { IsPairHeld graph.now.vertices pair.now }
     requires adds { CanBeAdded graph.now adds.old }
+    requires trail { IsTrail graph.now (order_with graph.now adds.old) trail.old }
     ensures stops { IfOk result
         (λ stops. stops ≡ (is_must pair.now.kind && forbids (order_with graph.now adds.old) pair.now)) }
     ensures order { IfOk result (λ stops. stops ≡ false
         → order_with graph.now adds.new ≡ with_must (order_with graph.now adds.old) pair.now) }
     ensures adds { OnOk result (CanBeAdded graph.now adds.new) }
-    ensures room { scratch.new ≡ scratch.old }
+    ensures trail { OnOk result (IsTrail graph.now (order_with graph.now adds.new) trail.new) }
+    ensures room { trail.new.room ≡ trail.old.room }
     ensures grows { length adds.new ≤ length adds.old + must_one pair.now }
     ensures least { steps.old ≤ steps.new }
     ensures most { steps.new
@@ -92,10 +93,10 @@ fn add_must<L: Ledger>(
 {
     match pair.kind {
         Kind::Must => {
-            if forbids(graph, adds.as_slice(), scratch, pair, steps) {
+            if forbids(graph, adds.as_slice(), trail, pair, steps) {
                 return Ok(true);
             }
-            add(graph, adds, scratch, pair, steps)?;
+            add(graph, adds, trail, pair, steps)?;
             Ok(false)
         }
         Kind::Prefer => Ok(false),
@@ -106,18 +107,20 @@ fn add_must<L: Ledger>(
 fn add_prefer<L: Ledger>(
     graph: &Graph,
     adds: &mut Adds,
-    scratch: &mut Scratch,
+    trail: &mut Trail,
     pair: &Pair,
     steps: &mut Steps<L>,
 ) -> Result<Outcome, NoMemory>
-    requires fits { length graph.now.slots ≤ scratch.old }
+    requires fits { length graph.now.slots ≤ trail.old.room }
     requires pair { IsPairHeld graph.now.vertices pair.now }
     requires adds { CanBeAdded graph.now adds.old }
+    requires trail { IsTrail graph.now (order_with graph.now adds.old) trail.old }
     ensures outcome { IfOk result (λ outcome. outcome ≡ outcome_of (order_with graph.now adds.old) pair.now) }
     ensures order { OnOk result
         (order_with graph.now adds.new ≡ with_prefer (order_with graph.now adds.old) pair.now) }
     ensures adds { OnOk result (CanBeAdded graph.now adds.new) }
-    ensures room { scratch.new ≡ scratch.old }
+    ensures trail { OnOk result (IsTrail graph.now (order_with graph.now adds.new) trail.new) }
+    ensures room { trail.new.room ≡ trail.old.room }
     ensures grows { length adds.new ≤ length adds.old + prefer_one pair.now }
     ensures least { steps.old ≤ steps.new }
     ensures most { steps.new
@@ -129,10 +132,10 @@ fn add_prefer<L: Ledger>(
             if pair.first.0 == pair.second.0 {
                 return Ok(Outcome::Same);
             }
-            if forbids(graph, adds.as_slice(), scratch, pair, steps) {
+            if forbids(graph, adds.as_slice(), trail, pair, steps) {
                 return Ok(Outcome::Reversed);
             }
-            add(graph, adds, scratch, pair, steps)?;
+            add(graph, adds, trail, pair, steps)?;
             Ok(Outcome::Kept)
         }
     }
@@ -142,19 +145,21 @@ fn add_prefer<L: Ledger>(
 pub(crate) fn add_musts<L: Ledger>(
     graph: &Graph,
     adds: &mut Adds,
-    scratch: &mut Scratch,
+    trail: &mut Trail,
     batch: &[Pair],
     steps: &mut Steps<L>,
 ) -> Result<Option<u32>, NoMemory>
     requires few { length batch.now ≤ 32 }
-    requires fits { length graph.now.slots ≤ scratch.old }
+    requires fits { length graph.now.slots ≤ trail.old.room }
     requires batch { IsBatchHeld graph.now.vertices batch.now }
     requires adds { CanBeAdded graph.now adds.old }
+    requires trail { IsTrail graph.now (order_with graph.now adds.old) trail.old }
     ensures found { IfOk result (λ found. found ≡ contradicts (order_with graph.now adds.old) batch.now) }
     ensures order { IfOk result (λ found. found ≡ None
         → order_with graph.now adds.new ≡ musts_from (order_with graph.now adds.old) batch.now) }
     ensures adds { OnOk result (CanBeAdded graph.now adds.new) }
-    ensures room { scratch.new ≡ scratch.old }
+    ensures trail { OnOk result (IsTrail graph.now (order_with graph.now adds.new) trail.new) }
+    ensures room { trail.new.room ≡ trail.old.room }
     ensures grows { length adds.new ≤ length adds.old + musts_in batch.now }
     ensures least { steps.old ≤ steps.new }
     ensures most { steps.new
@@ -162,7 +167,7 @@ pub(crate) fn add_musts<L: Ledger>(
         (search_most graph.now (length adds.old + musts_in batch.now)) }
 {
     for (i, pair) in batch.iter().enumerate() {
-        if add_must(graph, adds, scratch, pair, steps)? {
+        if add_must(graph, adds, trail, pair, steps)? {
             return Ok(Some(i as u32));
         }
     }
@@ -175,18 +180,20 @@ pub(crate) fn add_prefers<L: Ledger>(
     alloc: Global,
     graph: &Graph,
     adds: &mut Adds,
-    scratch: &mut Scratch,
+    trail: &mut Trail,
     batch: &[Pair],
     steps: &mut Steps<L>,
 ) -> Result<Outcomes, NoMemory>
-    requires fits { length graph.now.slots ≤ scratch.old }
+    requires fits { length graph.now.slots ≤ trail.old.room }
     requires batch { IsBatchHeld graph.now.vertices batch.now }
     requires adds { CanBeAdded graph.now adds.old }
+    requires trail { IsTrail graph.now (order_with graph.now adds.old) trail.old }
     ensures outcomes { IfOk result (λ outcomes. outcomes ≡ outcomes_from (order_with graph.now adds.old) batch.now) }
     ensures order { OnOk result
         (order_with graph.now adds.new ≡ prefers_from (order_with graph.now adds.old) batch.now) }
     ensures adds { OnOk result (CanBeAdded graph.now adds.new) }
-    ensures room { scratch.new ≡ scratch.old }
+    ensures trail { OnOk result (IsTrail graph.now (order_with graph.now adds.new) trail.new) }
+    ensures room { trail.new.room ≡ trail.old.room }
     ensures grows { length adds.new ≤ length adds.old + prefers_in batch.now }
     ensures least { steps.old ≤ steps.new }
     ensures most { steps.new
@@ -195,7 +202,7 @@ pub(crate) fn add_prefers<L: Ledger>(
 {
     let mut outcomes = Outcomes::new(alloc);
     for pair in batch {
-        let outcome = add_prefer(graph, adds, scratch, pair, steps)?;
+        let outcome = add_prefer(graph, adds, trail, pair, steps)?;
         outcomes.push(outcome)?;
     }
     Ok(outcomes)

@@ -17,7 +17,7 @@ use Rattle.kr_order.proofs.PathLemmas.{leads}
 use Rattle.kr_order.proofs.OrderLemmas.{reach-path, reach_more, reach_pair}
 use Rattle.dep_graph.specs.GraphView.{GraphView, IsGraph, is_held, event_at, outs_of}
 use Rattle.reach.specs.Finds.{is_in}
-use Rattle.reach.specs.Walk.{event_of, events_of, ArePlaced, AreFrom, AreSaid, LeadsTo, Meets, IsFoundBefore, IsFollowed, AreFollowed, IsUnderWay, IsLed, IsKept, steps_of}
+use Rattle.reach.specs.Walk.{event_of, events_of, ArePlaced, AreSaid, LeadsTo, Meets, IsFoundBefore, IsFollowed, AreFollowed, IsUnderWay, IsKept, steps_of}
 use Rattle.reach.proofs.MemberLemmas.{eqb-sym, is_in-all, is_in-map_from, is_in-more, times-distinct, All-reverse}
 use Rattle.reach.proofs.CellLemmas.{event_at-some, IsDistinct-events, ArePlaced-one}
 

@@ -1,7 +1,7 @@
 use Rattle.std.proofs.Common.{rules, arith}
 use Rattle.std.proofs.lemmas.Grind.{common_steps}
 use Rattle.batch_assign.specs.Plan.{must_one}
-use Rattle.batch_assign.proofs.StepLemmas.{IsSpent, IsSpent-more, IsSpent-few, IsSpent-within}
+use Rattle.batch_assign.proofs.StepLemmas.{IsSpent-more, IsSpent-few, IsSpent-within}
 use Rattle.batch_assign.proofs.draft.add_musts.Goals as goal
 
 pub returns-in_err-add_must-clause-grows : goal.returns-in_err-add_must-clause-grows
@@ -26,5 +26,6 @@ loop-i-preserved g c = record {
   found = grind (arith, common_steps);
   can = search rules;
   room = search rules;
+  trail = search rules;
   spent = IsSpent-more _ must_one _ _ _ _ _ _ _ _ _ c.loop-i.invariant.spent c.loop-i-test.true c.add_must.ensures.grows c.add_must.ensures.least c.add_must.ensures.most;
 }

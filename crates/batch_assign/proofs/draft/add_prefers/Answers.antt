@@ -1,7 +1,7 @@
 use Rattle.std.proofs.Common.{rules, arith}
 use Rattle.std.proofs.lemmas.Grind.{common_steps}
 use Rattle.batch_assign.specs.Plan.{prefer_one}
-use Rattle.batch_assign.proofs.StepLemmas.{IsSpent, IsSpent-more, IsSpent-few, IsSpent-within}
+use Rattle.batch_assign.proofs.StepLemmas.{IsSpent-more, IsSpent-few, IsSpent-within}
 use Rattle.batch_assign.proofs.draft.add_prefers.Goals as goal
 
 pub returns-in_err-outcome-clause-grows : goal.returns-in_err-outcome-clause-grows
@@ -26,5 +26,6 @@ loop-pair-preserved g c = record {
   outcomes = grind (arith, common_steps);
   can = search rules;
   room = search rules;
+  trail = search rules;
   spent = IsSpent-more _ prefer_one _ _ _ _ _ _ _ _ _ c.loop-pair.invariant.spent c.loop-pair-test.true c.add_prefer.ensures.grows c.add_prefer.ensures.least c.add_prefer.ensures.most;
 }

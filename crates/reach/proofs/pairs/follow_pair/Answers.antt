@@ -3,7 +3,7 @@ use Rattle.std.specs.Prelude.{is_some}
 use Rattle.std.proofs.lemmas.Bool.{and_left, and_from, eq-eqb}
 use Rattle.reach.specs.Finds.{is_in}
 use Rattle.reach.specs.Walk.{events_of}
-use Rattle.reach.proofs.CellLemmas.{is_in-events, events_of-with, ArePlaced-with}
+use Rattle.reach.proofs.CellLemmas.{events_of-with, ArePlaced-with}
 use Rattle.reach.proofs.WalkLemmas.{led_by-out, led_by-in}
 use Rattle.reach.proofs.pairs.follow_pair.Goals as goal
 

@@ -1,4 +1,4 @@
-use Rattle.std.proofs.Common.{◌≡◌, ◌<◌, ◌≤◌, ◌*◌, length, sym, arith, one-mul, mul-le-mul_right}
+use Rattle.std.proofs.Common.{◌≤◌, ◌*◌, length, sym, arith, one-mul, mul-le-mul_right}
 use Rattle.reach.specs.Search.{numbered}
 use Rattle.reach.proofs.EndLemmas.{reach-kept_extra, some_found, steps_bound, IsUnderWay-kept}
 use Rattle.reach.proofs.search.go_on.Goals as goal

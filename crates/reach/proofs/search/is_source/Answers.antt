@@ -1,4 +1,4 @@
-use Rattle.std.proofs.Common.{ℕ, false, ◌++◌, eqb, sym, ◌∙◌, ◌≡◌}
+use Rattle.std.proofs.Common.{false, ◌++◌, eqb, sym, ◌∙◌, ◌≡◌}
 use Rattle.std.proofs.lemmas.Bool.{not-true}
 use Rattle.std.proofs.lemmas.List.Elements.{All-append}
 use Rattle.dep_graph.proofs.ChangeLemmas.{no_second}

@@ -1,9 +1,8 @@
-use Rattle.std.proofs.Common.{◌≡◌, ◌<◌, ◌≤◌, ◌+◌, ◌*◌, [], ◌∷◌, length, take, refl, ap, sym, ◌∙◌, arith, add-mul, one-mul, mul-le-mul_right}
+use Rattle.std.proofs.Common.{◌≡◌, ◌<◌, ◌≤◌, ◌+◌, ◌*◌, length, take, ap, sym, ◌∙◌, arith, add-mul, one-mul, mul-le-mul_right}
 use Rattle.std.proofs.lemmas.List.{length-map}
 use Rattle.std.proofs.lemmas.List.Sums.{sum_by-take-le}
 use Rattle.kr_order.proofs.PrefixLemmas.{IsPrefix-length, IsPrefix-map, take_front}
 use Rattle.dep_graph.specs.GraphView.{outs_of}
-use Rattle.reach.specs.Finds.{with}
 use Rattle.reach.specs.Search.{numbered}
 use Rattle.reach.specs.Walk.{event_of, events_of, steps_of}
 use Rattle.reach.proofs.EndLemmas.{IsKept-ended, IsUnderWay-more, reach-met, reach-met_extra, reach-ended, steps_bound}

@@ -1,6 +1,6 @@
-use Rattle.std.proofs.Common.{◌≡◌, length, ap}
-use Rattle.batch_assign.proofs.StepLemmas.{IsPassed, musts-within, plan-within}
-use Rattle.batch_assign.proofs.decide.checked.Goals as goal
+use Rattle.std.proofs.Common.{length, ap}
+use Rattle.batch_assign.proofs.StepLemmas.{musts-within, plan-within}
+use Rattle.batch_assign.proofs.decide.checked_by.Goals as goal
 
 pub returns-in_err-i-clause-most : goal.returns-in_err-i-clause-most
 returns-in_err-i-clause-most g c =
