@@ -1,7 +1,8 @@
 //! Searches for paths through a graph of events, with a bound on their steps.
 //!
 //! A step is an event that is taken up or a pair that is looked at. Contracts see a `Scratch` as a number, its room:
-//! how many cells a graph may have that is searched with it. Only `fit` takes memory, and a search clears nothing.
+//! how many cells a graph may have that is searched with it. Only `fit` takes memory, and a search clears nothing. A
+//! `Trail` is lent from a scratch where one search after another begins at one event.
 #![tactic(auto)]
 
 mod asks;
