@@ -36,8 +36,7 @@ fn forbids<L: Ledger>(
     ensures least { steps.old ≤ steps.new }
     ensures most { steps.new ≤ steps.old + search_most graph.now (length adds.now) }
 {
-    pair.first.0 == pair.second.0
-        || trail.reaches(graph, adds, pair.second, pair.first, steps)
+    pair.first.0 == pair.second.0 || trail.reaches(graph, adds, pair.second, pair.first, steps)
 }
 
 // Adds a pair that the order does not forbid, where no path says it already.
