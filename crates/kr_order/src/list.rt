@@ -82,14 +82,18 @@ impl<T> Listed<T> {
         Ok(())
     }
 
-    /// Moves all items of the other list to the end. After `NoMemory` the list is as before, and the other
-    /// list's items are dropped.
+    /// Moves all items of the other list to the end, and takes that list's memory where this one is empty. After
+    /// `NoMemory` the list is as before, and the other list's items are dropped.
     pub fn append(&mut self, mut more: Listed<T>) -> Result<(), NoMemory>
     where
         T: Drop,
         ensures ok { OnOk result (self.new ≡ self.old ++ more) }
         ensures err { OnErr result (self.new ≡ self.old) }
     {
+        if self.items.is_empty() {
+            self.items = more.items;
+            return Ok(());
+        }
         self.items.append(&mut more.items)?;
         Ok(())
     }
@@ -101,7 +105,9 @@ impl<T: Copied + Drop> Listed<T> {
         ensures { IfOk result (λ copy. copy ≡ self.now) }
     {
         let alloc = *self.items.allocator();
-        let mut copy = Listed::new(alloc);
+        let mut copy = Listed {
+            items: Vec::with_capacity(alloc, self.items.len())?,
+        };
         for item in self.items.iter() {
             copy.push(item.copy(alloc)?)?;
         }
