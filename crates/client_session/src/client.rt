@@ -3,6 +3,7 @@
 mod hears;
 
 ghost use Rattle.std.specs.Prelude.{◌≡◌, ◌^◌, ◌<◌, ℕ, true, false, None, [], is_some, IfOk, OnOk, OnErr};
+ghost use Rattle.std.specs.Bool.{OnTrue};
 ghost use Rattle.kr_order.specs.View.{last_member};
 ghost use Rattle.kr_protocol.specs.Client.{new_client, first_of, server_or_none, remaining, is_busy, says, asked_again, learns};
 ghost use Rattle.client_session.specs.Calls.{Begins, Asks, Retries};
@@ -159,6 +160,13 @@ impl Model for Client {
     ghost invariant = { λ c. c.cache.capacity ≡ most_remembered };
 }
 
+// Whether the two chains have the same servers in one order.
+fn is_same(chain: &[ServerId], other: &[ServerId]) -> bool
+    ensures { OnTrue result (chain.now ≡ other.now) }
+{
+    chain == other
+}
+
 impl Client {
     /// A client that has begun nothing, and knows this view.
     pub fn new(alloc: Global, id: ClientId, view: View) -> Result<Client, NoMemory>
@@ -280,6 +288,15 @@ impl Client {
         Ok(self.says(server, message))
     }
 
+    // Whether the client knows just this view.
+    fn is_known(&self, view: &View) -> bool
+        ensures { OnTrue result (view.now ≡ self.now.client.known) }
+    {
+        self.known.number == view.number
+            && self.known.joiner == view.joiner
+            && is_same(self.known.chain.as_slice(), view.chain.as_slice())
+    }
+
     /// The client knows this view from now on: commands go to its first server, and what is unsure to its last. An
     /// open call stays as it is. After `NoMemory` the client has failed.
     pub fn learn(&mut self, view: &View) -> Result<(), NoMemory>
@@ -289,6 +306,9 @@ impl Client {
     {
         if self.failed {
             return Err(NoMemory);
+        }
+        if self.is_known(view) {
+            return Ok(());
         }
         self.failed = true;
         self.known = view.copy(self.alloc)?;
