@@ -1,5 +1,5 @@
 -- When a pair more can be added after others, and what is left to add after the first of them.
-use Rattle.std.proofs.Common.{◌≡◌, ℕ, Bool, true, false, eqb, ◌&&◌, List, [], ◌∷◌, ◌++◌, sym, ap, ◌∙◌, subst, append_assoc}
+use Rattle.std.proofs.Common.{◌≡◌, ℕ, Bool, true, false, eqb, ◌&&◌, ◌||◌, List, [], ◌∷◌, ◌++◌, sym, ap, ◌∙◌, subst, append_assoc}
 use Rattle.std.proofs.lemmas.Bool.{and_parts, both_ways, eqb-true, false_from_ne_true, or_parts}
 use Rattle.std.proofs.lemmas.List.{append-nil, map-append}
 use Rattle.std.proofs.lemmas.List.Elements.{All-push}
@@ -7,9 +7,9 @@ use Rattle.std.proofs.lemmas.List.Folds.{Any-from_list_any}
 use Rattle.kr_order.specs.Prefix.{IsPrefix}
 use Rattle.kr_order.specs.declared.ids.EventId.{EventId}
 use Rattle.kr_order.specs.declared.batch.Pair.{Pair}
-use Rattle.kr_order.specs.Order.{reach}
+use Rattle.kr_order.specs.Order.{reach, IsAcyclic}
 use Rattle.kr_order.specs.Batch.{forbids}
-use Rattle.kr_order.proofs.OrderLemmas.{reach_pair}
+use Rattle.kr_order.proofs.OrderLemmas.{reach_pair, never_back, IsAcyclic-push}
 use Rattle.dep_graph.specs.GraphView.{GraphView, has_pair, CanAdd, CanAddAll}
 use Rattle.reach.specs.Search.{numbered, AreHeld}
 use Rattle.batch_assign.specs.Plan.{IsPairHeld, order_with, CanBeAdded}
@@ -54,3 +54,15 @@ IsPrefix-order_with graph adds pair =
       more = numbered (pair ∷ []);
       is = ap (λ pairs. graph.pairs ++ pairs) (map-append (λ (p : EventId × EventId). (p.0.0, p.1.0)) adds (pair ∷ [])) ∙ sym (append_assoc graph.pairs (numbered adds) (numbered (pair ∷ [])));
     }
+
+-- an order without a cycle has none where pairs that can be added are added
+pub IsAcyclic-all : (vertices : List ℕ) (pairs adds : List (ℕ × ℕ)) → IsAcyclic pairs → CanAddAll vertices pairs adds → IsAcyclic (pairs ++ adds)
+IsAcyclic-all vertices pairs [] acyclic all = subst IsAcyclic (sym (append-nil pairs)) acyclic
+IsAcyclic-all vertices pairs (pair ∷ more) acyclic all =
+    subst IsAcyclic (append_assoc pairs (pair ∷ []) more) (IsAcyclic-all vertices (pairs ++ pair ∷ []) more (IsAcyclic-push pairs pair.0 pair.1 acyclic (ap (λ test. test || reach pairs pair.1 pair.0) all.0.apart ∙ all.0.not_back)) all.1)
+
+-- an order that says a pair does not forbid it
+pub forbids-said : (graph : GraphView) (adds : List (EventId × EventId)) (pair : Pair) → IsAcyclic graph.pairs → CanBeAdded graph adds → eqb pair.first.0 pair.second.0 ≡ false → reach (order_with graph adds) pair.first.0 pair.second.0 ≡ true → forbids (order_with graph adds) pair ≡ false
+forbids-said graph adds pair acyclic can apart said =
+    let order = order_with graph adds in
+    ap (λ test. test || reach order pair.second.0 pair.first.0) apart ∙ never_back order pair.first.0 pair.second.0 (IsAcyclic-all graph.vertices graph.pairs (numbered adds) acyclic can.fits) said

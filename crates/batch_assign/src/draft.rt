@@ -18,52 +18,42 @@ use reach::Trail;
 use std::alloc::Global;
 use std::sync::ledger::Ledger;
 
-// Whether the order forbids the pair.
-fn forbids<L: Ledger>(
-    graph: &Graph,
-    adds: &[(EventId, EventId)],
-    trail: &mut Trail,
-    pair: &Pair,
-    steps: &mut Steps<L>,
-) -> bool
-    requires fits { length graph.now.slots ≤ trail.old.room }
-    requires pair { IsPairHeld graph.now.vertices pair.now }
-    requires adds { All (AreHeld graph.now.vertices) adds.now }
-    requires trail { IsTrail graph.now (order_with graph.now adds.now) trail.old }
-    ensures trail { IsTrail graph.now (order_with graph.now adds.now) trail.new }
-    ensures value { result ≡ forbids (order_with graph.now adds.now) pair.now }
-    ensures room { trail.new.room ≡ trail.old.room }
-    ensures least { steps.old ≤ steps.new }
-    ensures most { steps.new ≤ steps.old + search_most graph.now (length adds.now) }
-{
-    pair.first.0 == pair.second.0 || trail.reaches(graph, adds, pair.second, pair.first, steps)
-}
-
-// Adds a pair that the order does not forbid, where no path says it already.
+// Adds the pair where the order neither says nor forbids it. Whether the order forbids it, and then nothing is added. Where
+// a path says the pair, there is none the other way, and none is searched for.
 fn add<L: Ledger>(
     graph: &Graph,
     adds: &mut Adds,
     trail: &mut Trail,
     pair: &Pair,
     steps: &mut Steps<L>,
-) -> Result<(), NoMemory>
+) -> Result<bool, NoMemory>
     requires fits { length graph.now.slots ≤ trail.old.room }
     requires pair { IsPairHeld graph.now.vertices pair.now }
     requires adds { CanBeAdded graph.now adds.old }
     requires trail { IsTrail graph.now (order_with graph.now adds.old) trail.old }
-    requires allowed { forbids (order_with graph.now adds.old) pair.now ≡ false }
-    ensures order { OnOk result (order_with graph.now adds.new ≡ with_pair (order_with graph.now adds.old) pair.now) }
+    ensures forbids { IfOk result (λ stops. stops ≡ forbids (order_with graph.now adds.old) pair.now) }
+    ensures order { IfOk result (λ stops. stops ≡ false
+        → order_with graph.now adds.new ≡ with_pair (order_with graph.now adds.old) pair.now) }
+    ensures same { IfOk result (λ stops. stops ≡ true → adds.new ≡ adds.old) }
     ensures adds { OnOk result (CanBeAdded graph.now adds.new) }
     ensures trail { OnOk result (IsTrail graph.now (order_with graph.now adds.new) trail.new) }
     ensures room { trail.new.room ≡ trail.old.room }
     ensures grows { length adds.new ≤ length adds.old + 1 }
     ensures least { steps.old ≤ steps.new }
-    ensures most { steps.new ≤ steps.old + search_most graph.now (length adds.old) }
+    ensures most { steps.new ≤ steps.old + twice_each 1 (search_most graph.now (length adds.old)) }
 {
-    if !trail.reaches(graph, adds.as_slice(), pair.first, pair.second, steps) {
-        adds.push((pair.first, pair.second))?;
+    graph.recall_graph();
+    if pair.first.0 == pair.second.0 {
+        return Ok(true);
     }
-    Ok(())
+    if trail.reaches(graph, adds.as_slice(), pair.first, pair.second, steps) {
+        return Ok(false);
+    }
+    if trail.reaches(graph, adds.as_slice(), pair.second, pair.first, steps) {
+        return Ok(true);
+    }
+    adds.push((pair.first, pair.second))?;
+    Ok(false)
 }
 
 // Adds the pair if it is a must. Whether it is one that the order forbids, and then nothing is added.
@@ -91,13 +81,7 @@ fn add_must<L: Ledger>(
         ≤ steps.old + twice_each (must_one pair.now) (search_most graph.now (length adds.old)) }
 {
     match pair.kind {
-        Kind::Must => {
-            if forbids(graph, adds.as_slice(), trail, pair, steps) {
-                return Ok(true);
-            }
-            add(graph, adds, trail, pair, steps)?;
-            Ok(false)
-        }
+        Kind::Must => { add(graph, adds, trail, pair, steps) }
         Kind::Prefer => Ok(false),
     }
 }
@@ -131,10 +115,9 @@ fn add_prefer<L: Ledger>(
             if pair.first.0 == pair.second.0 {
                 return Ok(Outcome::Same);
             }
-            if forbids(graph, adds.as_slice(), trail, pair, steps) {
+            if add(graph, adds, trail, pair, steps)? {
                 return Ok(Outcome::Reversed);
             }
-            add(graph, adds, trail, pair, steps)?;
             Ok(Outcome::Kept)
         }
     }
