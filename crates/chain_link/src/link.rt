@@ -1,6 +1,6 @@
 //! How many entries the next server is known to have, and the packet with those that it may lack.
 
-ghost use Rattle.std.specs.Prelude.{◌≡◌, max, min, None, IfOk};
+ghost use Rattle.std.specs.Prelude.{◌≡◌, ◌<◌, length, max, min, None, IfOk, OnErr};
 ghost use Rattle.kr_protocol.specs.Server.{window_of};
 
 use cmd_log::Log;
@@ -53,9 +53,10 @@ impl Link {
     }
 
     /// The packet of this server with the entries that the next one is not known to have, the first 16 of them; none
-    /// exactly where there is no next server, or the log has none of these.
+    /// exactly where there is no next server, or the log has none of these. `NoMemory` comes only where there is one.
     pub fn window(&self, alloc: Global, id: ServerId, log: &Log) -> Result<Packets, NoMemory>
-        ensures { IfOk result (λ packets. packets ≡ window_of id self.now.next self.now.fed log.now) }
+        ensures packets { IfOk result (λ packets. packets ≡ window_of id self.now.next self.now.fed log.now) }
+        ensures err { OnErr result (0 < length (window_of id self.now.next self.now.fed log.now)) }
     {
         let mut packets = Packets::new(alloc);
         let Some(to) = self.next else {

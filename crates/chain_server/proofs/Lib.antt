@@ -4,3 +4,4 @@ pub mod HeedLemmas
 pub mod AdvanceLemmas
 pub mod RequestLemmas
 pub mod Asked
+pub mod AckLemmas

@@ -1,5 +1,5 @@
 -- What the calls of a server do.
-use Rattle.std.specs.Prelude.{ℕ, List, ◌≡◌, ◌≢◌, ◌<◌, ◌≤◌, ◌⊎◌, ◌++◌, length, true, false, None, Result, Ok, Err}
+use Rattle.std.specs.Prelude.{ℕ, List, Bool, ◌≡◌, ◌≢◌, ◌<◌, ◌⊎◌, ◌++◌, ◌&&◌, nat_le, length, min, true, false, None, Result, Ok, Err}
 use Rattle.kr_order.specs.declared.ids.ClientId.{ClientId}
 use Rattle.kr_order.specs.declared.ids.EventId.{EventId}
 use Rattle.kr_order.specs.declared.ids.ServerId.{ServerId}
@@ -12,12 +12,13 @@ use Rattle.kr_order.specs.declared.message.Message.TheVariants.{Request, Append,
 use Rattle.kr_order.specs.declared.message.Packet.{Packet}
 use Rattle.kr_order.specs.declared.view.View.{View}
 use Rattle.kr_order.specs.History.{highest_seq}
-use Rattle.kr_order.specs.Done.{done_of}
+use Rattle.kr_order.specs.Done.{done_of, last_of}
 use Rattle.kr_protocol.specs.Reaction.{Reaction}
-use Rattle.kr_protocol.specs.Server.{Server, acknowledged, server_takes, server_works, is_member, is_first, is_at_tail}
-use Rattle.kr_protocol.specs.Server.{is_for_tail_alone, is_server, prev, next, may_adopt, most_waiting}
+use Rattle.kr_protocol.specs.Server.{Server, acknowledged, server_takes, server_works, server_ticks, is_member, is_first, is_at_tail}
+use Rattle.kr_protocol.specs.Server.{is_for_tail_alone, is_server, prev, next, behind, may_adopt, most_waiting}
 use Rattle.chain_server.specs.declared.effects.Effects.{Effects}
 use Rattle.chain_server.specs.ServerStanding.{ServerStanding}
+use Rattle.chain_server.specs.Parts.{has_seq}
 
 -- the server does as this reaction says, and tells the entries that it has newly applied
 pub record Heeds (old : ServerStanding) (reaction : Reaction Server) (effects : Effects) (new : ServerStanding) : Type 0 where
@@ -31,15 +32,36 @@ abbrev pub Does : ServerStanding → Reaction Server → Result Effects OutOfMem
 Does old reaction (Ok effects) new = Heeds old reaction effects new
 Does old reaction (Err stop) new = new.failed ≡ true
 
--- a member heeds a request, but for one of a new command that is not the first member
+-- a member heeds a request of the client's last applied command, and the first member one of a command that is newer than
+-- all of the client's in its log
 abbrev pub HeedsRequest : Server → ClientId → ℕ → Type 0
-HeedsRequest server client seq = (is_member server ≡ true) × ((is_first server ≡ true) ⊎ (seq ≤ highest_seq client server.log))
+HeedsRequest server client seq =
+    (is_member server ≡ true)
+    × ((has_seq (last_of client (done_of (acknowledged server))) seq ≡ true)
+    ⊎ ((is_first server ≡ true) × (highest_seq client server.log < seq)))
 
 -- a server with a view heeds a query, but for one more where so many wait
 abbrev pub HeedsAsk : Server → ℕ → Type 0
 HeedsAsk server part =
     (server.view ≢ None)
     × ((is_member server ≡ false) ⊎ ((is_for_tail_alone (is_at_tail server) part ≡ true) ⊎ (length server.waiting < most_waiting)))
+
+-- what the next server says is news: more entries are acknowledged, it has more but not all, or it is a joiner that has what
+-- it has to have
+abbrev pub IsAckedMore : Server → ℕ → Type 0
+IsAckedMore server done = server.done < min done (length server.log)
+
+abbrev pub IsFedMore : Server → ℕ → Type 0
+IsFedMore server len = (server.fed < min len (length server.log)) × (min len (length server.log) < length server.log)
+
+abbrev pub has_caught_up : Server → ServerId → ℕ → Bool
+has_caught_up server from len = is_server (behind server) from && nat_le server.need len
+
+-- a server heeds what the next server says where it is news: it applies or sends something for that
+abbrev pub HeedsAck : Server → ServerId → ℕ → ℕ → Type 0
+HeedsAck server from done len =
+    (is_server (next server) from ≡ true)
+    × ((IsAckedMore server done ⊎ IsFedMore server len) ⊎ (has_caught_up server from len ≡ true))
 
 -- which messages of clients, servers and the manager it heeds: it takes no notice of any other
 abbrev pub HeedsClient : Server → ClientId → Message → Type 0
@@ -49,7 +71,7 @@ HeedsClient server client other = ⊥
 
 abbrev pub HeedsServer : Server → ServerId → Message → Type 0
 HeedsServer server from (Append first entries) = is_server (prev server) from ≡ true
-HeedsServer server from (Ack done len) = is_server (next server) from ≡ true
+HeedsServer server from (Ack done len) = HeedsAck server from done len
 HeedsServer server from other = ⊥
 
 abbrev pub HeedsManager : Server → Message → Type 0
@@ -77,6 +99,11 @@ Takes old packet (Err stop) new = FindsNoMemory (HeedsPacket old.server packet) 
 abbrev pub Works : ServerStanding → Result Effects OutOfMemory → ServerStanding → Type 0
 Works old (Ok effects) new = Heeds old (server_works old.server) effects new
 Works old (Err stop) new = FindsNoMemory (0 < length old.server.waiting) old new
+
+-- the server tells the servers beside it, or has failed, for want of memory only where it has something to tell
+abbrev pub Ticks : ServerStanding → Result Effects OutOfMemory → ServerStanding → Type 0
+Ticks old (Ok effects) new = Heeds old (server_ticks old.server) effects new
+Ticks old (Err stop) new = FindsNoMemory (0 < length (server_ticks old.server).sent) old new
 
 -- the server goes on as this reaction says, and its packets come behind those before
 pub record Adds (before : Effects) (old : ServerStanding) (reaction : Reaction Server) (effects : Effects) (new : ServerStanding)

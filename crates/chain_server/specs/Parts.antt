@@ -1,5 +1,5 @@
 -- What a server sends, said of its parts.
-use Rattle.std.specs.Prelude.{ℕ, ◌==◌, List, [], ◌∷◌, Option, None, Some, if◌then◌else◌}
+use Rattle.std.specs.Prelude.{ℕ, ◌==◌, Bool, false, List, [], ◌∷◌, Option, None, Some, if◌then◌else◌}
 use Rattle.std.specs.Option.{option_to_list}
 use Rattle.kr_order.specs.declared.ids.ServerId.{ServerId}
 use Rattle.kr_order.specs.declared.ids.ClientId.{ClientId}
@@ -16,6 +16,11 @@ use Rattle.kr_protocol.specs.Server.{Server, reply_packet, sends, window}
 -- what is passed on once so many entries were taken
 abbrev pub passed_on_by : Server → ℕ → List Packet
 passed_on_by server taken = if taken == 0 then [] else window server
+
+-- this is the number of the client's last applied entry, if there is one
+abbrev pub has_seq : Option DoneEntry → ℕ → Bool
+has_seq None seq = false
+has_seq (Some last) seq = last.entry.seq == seq
 
 -- the reply to a client's command of this number, where it is the client's last applied entry
 abbrev pub repeated : ServerId → Option DoneEntry → ℕ → Option Packet

@@ -5,7 +5,7 @@ ghost use Rattle.std.specs.Option.{option_to_list};
 ghost use Rattle.kr_order.specs.Done.{done_of, last_of};
 ghost use Rattle.kr_protocol.specs.Server.{reply_packet, lasts};
 ghost use Rattle.order_state.specs.Kept.{kept_of};
-ghost use Rattle.chain_server.specs.Parts.{repeated, reply_if_last};
+ghost use Rattle.chain_server.specs.Parts.{has_seq, repeated, reply_if_last};
 ghost use Rattle.chain_server.specs.Whole.{IsBackOf};
 
 use kr_order::{ClientId, DoneEntry, Message, NoMemory, Node, Packet, Packets, Placed, ServerId};
@@ -26,6 +26,16 @@ fn reply_of(id: ServerId, client: ClientId, kept: Kept) -> Packet
             seq,
             placed: Placed { place, reply },
         },
+    }
+}
+
+/// Whether this is the number of the client's last applied entry. It takes no memory.
+pub fn has_seq<B: Board>(board: &B, client: ClientId, seq: u64) -> bool
+    ensures { result ≡ has_seq (last_of client (done_of (B.stands board.now))) seq }
+{
+    match board.last_seq(client) {
+        None => false,
+        Some(last) => last == seq,
     }
 }
 

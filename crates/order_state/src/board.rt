@@ -47,6 +47,11 @@ pub trait Board: Drop {
     fn last(&self, client: ClientId) -> Result<Option<Kept>, NoMemory>
         ensures { IfOk result (λ last. last ≡ option_map kept_of (last_of client (done_of (stands self.now)))) };
 
+    /// The sequence number of the client's last entry, from 1; `None` where the history has none of the client. It takes
+    /// no memory.
+    fn last_seq(&self, client: ClientId) -> Option<u64>
+        ensures { result ≡ option_map (λ done. done.entry.seq) (last_of client (done_of (stands self.now))) };
+
     /// How many entries the history has.
     fn count(&self) -> u64
         ensures { result ≡ length (stands self.now) };
@@ -112,6 +117,13 @@ impl Board for PlainBoard {
         match self.state.last(client) {
             Some(kept) => Ok(Some(kept.copy(self.alloc)?)),
             None => Ok(None),
+        }
+    }
+
+    fn last_seq(&self, client: ClientId) -> Option<u64> {
+        match self.state.last(client) {
+            Some(kept) => Some(kept.seq),
+            None => None,
         }
     }
 

@@ -1,13 +1,13 @@
 //! Acknowledgements of the next server.
 
-ghost use Rattle.std.specs.Prelude.{◌≡◌, ◌^◌, ◌≤◌, ◌&&◌, nat_le, length, min, true, false, IfOk, OnOk, OnErr};
-ghost use Rattle.kr_protocol.specs.Server.{ack, sends, is_server, next, behind, feeds, acknowledges, acknowledges_and_feeds, tells_joined, hears, after_ack};
-ghost use Rattle.chain_server.specs.Calls.{Does, AddsTo};
+ghost use Rattle.std.specs.Prelude.{◌≡◌, ◌^◌, ◌<◌, ◌≤◌, ◌⊎◌, length, min, true, false, OnErr};
+ghost use Rattle.kr_protocol.specs.Server.{ack, sends, feeds, acknowledges, acknowledges_and_feeds, tells_joined, hears, after_ack};
+ghost use Rattle.chain_server.specs.Calls.{Does, AddsTo, IsAckedMore, IsFedMore, has_caught_up, HeedsAck};
 
 use super::Server;
 use super::viewed::is_server;
 use crate::Effects;
-use kr_order::{Message, NoMemory, Node, Packet, Packets, ServerId};
+use kr_order::{Message, NoMemory, Node, Packet, ServerId};
 use order_state::Board;
 
 impl<B: Board> Server<B> {
@@ -28,7 +28,8 @@ impl<B: Board> Server<B> {
         requires whole { self.old.failed ≡ false }
         requires high { upto ≤ length self.old.server.log }
         requires few { upto ≤ 2 ^ 58 }
-        ensures { Does self.old (acknowledges self.old.server upto) result self.new }
+        ensures does { Does self.old (acknowledges self.old.server upto) result self.new }
+        ensures err { OnErr result (self.old.server.done < upto) }
     {
         if upto <= self.board.count() {
             return Ok(Effects::none(self.alloc));
@@ -40,18 +41,18 @@ impl<B: Board> Server<B> {
     // The next server has so many entries, and is sent more where this is news.
     fn feed(&mut self, len: u64, mut effects: Effects) -> Result<Effects, NoMemory>
         requires { self.old.failed ≡ false }
-        ensures { AddsTo effects self.old (feeds self.old.server (min len (length self.old.server.log))) result self.new }
+        ensures adds { AddsTo effects self.old (feeds self.old.server (min len (length self.old.server.log))) result self.new }
+        ensures err { OnErr result (IsFedMore self.old.server len) }
     {
-        self.failed = true;
         let own = self.log.len();
         let upto = len.min(own);
         let is_news = self.link.fed() < upto && upto < own;
         self.link.heard(len, own);
-        let packets = if is_news {
-            self.window()?
-        } else {
-            Packets::new(self.alloc)
-        };
+        if !is_news {
+            return Ok(effects);
+        }
+        self.failed = true;
+        let packets = self.window()?;
         effects.packets.append(packets)?;
         self.failed = false;
         Ok(effects)
@@ -60,7 +61,8 @@ impl<B: Board> Server<B> {
     // So many entries are acknowledged to the next server, and it has so many.
     fn acknowledge_and_feed(&mut self, done: u64, len: u64) -> Result<Effects, NoMemory>
         requires { self.old.failed ≡ false }
-        ensures { Does self.old (acknowledges_and_feeds self.old.server done len) result self.new }
+        ensures does { Does self.old (acknowledges_and_feeds self.old.server done len) result self.new }
+        ensures err { OnErr result (IsAckedMore self.old.server done ⊎ IsFedMore self.old.server len) }
     {
         let upto = done.min(self.log.len());
         let effects = self.acknowledge(upto)?;
@@ -69,28 +71,12 @@ impl<B: Board> Server<B> {
 
     // Whether that server, which has so many entries, is the joiner, and has as many as it has to have.
     fn has_caught_up(&self, from: ServerId, len: u64) -> bool
-        ensures { result ≡ (is_server (behind self.now.server) from && nat_le self.now.server.need len) }
+        ensures { result ≡ has_caught_up self.now.server from len }
     {
         is_server(self.behind(), from) && self.need <= len
     }
 
-    // What the manager is told then: that the joiner has caught up.
-    fn caught_up(&self, from: ServerId, len: u64) -> Result<Packets, NoMemory>
-        ensures { IfOk result (λ packets. packets ≡ (tells_joined self.now.server from len).sent) }
-    {
-        let mut packets = Packets::new(self.alloc);
-        if !self.has_caught_up(from, len) {
-            return Ok(packets);
-        }
-        packets.push(Packet {
-            from: Node::Server(self.id),
-            to: Node::Manager,
-            message: Message::Joined { joiner: from },
-        })?;
-        Ok(packets)
-    }
-
-    // The manager is told so behind this.
+    // The manager is told behind this that the joiner has caught up, where that is so.
     fn tell_joined(
         &mut self,
         from: ServerId,
@@ -98,11 +84,18 @@ impl<B: Board> Server<B> {
         mut effects: Effects,
     ) -> Result<Effects, NoMemory>
         requires { self.old.failed ≡ false }
-        ensures { AddsTo effects self.old (tells_joined self.old.server from len) result self.new }
+        ensures adds { AddsTo effects self.old (tells_joined self.old.server from len) result self.new }
+        ensures err { OnErr result (has_caught_up self.old.server from len ≡ true) }
     {
+        if !self.has_caught_up(from, len) {
+            return Ok(effects);
+        }
         self.failed = true;
-        let packets = self.caught_up(from, len)?;
-        effects.packets.append(packets)?;
+        effects.packets.push(Packet {
+            from: Node::Server(self.id),
+            to: Node::Manager,
+            message: Message::Joined { joiner: from },
+        })?;
         self.failed = false;
         Ok(effects)
     }
@@ -110,7 +103,9 @@ impl<B: Board> Server<B> {
     // What the next server says of itself: so many entries are acknowledged to it, and it has so many.
     fn hear(&mut self, from: ServerId, done: u64, len: u64) -> Result<Effects, NoMemory>
         requires { self.old.failed ≡ false }
-        ensures { Does self.old (hears self.old.server from done len) result self.new }
+        ensures does { Does self.old (hears self.old.server from done len) result self.new }
+        ensures err { OnErr result
+            ((IsAckedMore self.old.server done ⊎ IsFedMore self.old.server len) ⊎ (has_caught_up self.old.server from len ≡ true)) }
     {
         let effects = self.acknowledge_and_feed(done, len)?;
         self.tell_joined(from, len, effects)
@@ -125,7 +120,7 @@ impl<B: Board> Server<B> {
     ) -> Result<Effects, NoMemory>
         requires { self.old.failed ≡ false }
         ensures does { Does self.old (after_ack self.old.server from done len) result self.new }
-        ensures err { OnErr result (is_server (next self.old.server) from ≡ true) }
+        ensures err { OnErr result (HeedsAck self.old.server from done len) }
     {
         if !is_server(self.link.next(), from) {
             return Ok(Effects::none(self.alloc));

@@ -5,11 +5,11 @@ ghost use Rattle.kr_order.specs.Done.{done_of, last_of};
 ghost use Rattle.kr_order.specs.History.{highest_seq};
 ghost use Rattle.kr_protocol.specs.Server.{acknowledged, is_first, appended, commits_or_passes_on, enters, enters_new, after_request};
 ghost use Rattle.chain_server.specs.Calls.{Does, HeedsRequest};
-ghost use Rattle.chain_server.specs.Parts.{entry_of, replies_again};
+ghost use Rattle.chain_server.specs.Parts.{entry_of, has_seq, replies_again};
 
 use super::Server;
 use crate::Effects;
-use crate::replies::repeated;
+use crate::replies::{has_seq, repeated};
 use kr_order::{ClientId, Command, Copied, Entry, NoMemory};
 use order_state::Board;
 
@@ -79,9 +79,13 @@ impl<B: Board> Server<B> {
     // The client's last applied entry is replied once more, where it has this number.
     fn reply_again(&mut self, client: ClientId, seq: u64) -> Result<Effects, NoMemory>
         requires { self.old.failed ≡ false }
-        ensures { Does self.old (replies_again self.old.server seq (last_of client (done_of (acknowledged self.old.server)))) result
+        ensures does { Does self.old (replies_again self.old.server seq (last_of client (done_of (acknowledged self.old.server)))) result
             self.new }
+        ensures err { OnErr result (has_seq (last_of client (done_of (acknowledged self.old.server))) seq ≡ true) }
     {
+        if !has_seq(&self.board, client, seq) {
+            return Ok(Effects::none(self.alloc));
+        }
         self.failed = true;
         let effects = match repeated(self.id, &self.board, client, seq)? {
             Some(packet) => Effects::of_packet(self.alloc, packet)?,
