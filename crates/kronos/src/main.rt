@@ -1,9 +1,10 @@
 //! The program: it reads a script, runs it, and prints its transcript; it reads the calls of many clients, makes those of
-//! each on a thread of its own, and prints what they were told and the history; it reads a log of processes, and prints its
-//! events, clocks and pairs; or it runs a made load, and prints its summary.
+//! each on a thread of its own, and prints what they were told and the history; it runs a chain of three nodes on threads, and
+//! prints what their readers told and the history; it reads a log of processes, and prints its events, clocks and pairs; or
+//! it runs a made load, and prints its summary.
 //!
-//! All that the program does is `kronos_live` where its first word is `live`, and `kronos_script` where it is not: their
-//! contracts say for each of their ends what was read, what was written, and why it came.
+//! All that the program does is `kronos_live` where its first word is `live` or `chain`, and `kronos_script` where it is not:
+//! their contracts say for each of their ends what was read, what was written, and why it came.
 #![tactic(auto)]
 
 ghost use Rattle.std.specs.Prelude.{◌≡◌, map, drop, option_map, string_bytes, IfOk};
@@ -65,7 +66,7 @@ fn main(rt: HostRuntime) -> ExitCode {
     let mut sink = StdSink::new(io::writer(&rt));
     let exit = match words(&rt) {
         Ok(words) => match words.first() {
-            Some(word) if word.as_str() == "live" => {
+            Some(word) if word.as_str() == "live" || word.as_str() == "chain" => {
                 kronos_live(&rt, rt.alloc(), &words, &mut source, &mut sink, &OpenGate)
             }
             _ => kronos_script(&rt, rt.alloc(), &words, &mut source, &mut sink),

@@ -15,7 +15,9 @@ use Rattle.script_lang.specs.declared.live.LiveCall.TheVariants.{Command, Query}
 use Rattle.live_service.specs.declared.calls.LiveAnswer.{LiveAnswer}
 use Rattle.live_service.specs.declared.calls.LiveAnswer.TheVariants.{Placed, Told}
 use Rattle.live_service.specs.Lawful.{IsAnswered, AreAnswered, HaveAnswers, calls_of, command_in, told_number}
-use Rattle.live_driver.specs.Text.{IsSure, IsSureOf, IsSureOfAll}
+use Rattle.script_lang.specs.declared.chain.ChainQuery.{ChainQuery}
+use Rattle.live_chain.specs.Lawful.{AreToldAfter}
+use Rattle.live_driver.specs.Text.{IsSure, IsSureOf, IsSureOfAll, AreSureTold}
 
 chosen : (live same before after : Bool) → IsSure (if live then (if same then Same else (if before then Before else (if after then After else Concurrent))) else Unknown)
 chosen true true before after = λ is. cc
@@ -55,3 +57,11 @@ clients_sure history calls number [] have = All-nil IsSureOfAll
 clients_sure history calls number (answers ∷ more) have =
     let client : ClientId = record { 0 = number } in
     All-cons IsSureOfAll answers more (calls_sure history client 0 0 (calls_of client calls) answers have.0) (clients_sure history calls (number + 1) more have.1)
+
+-- nor is what a node's reader tells
+pub tolds_sure : (history : List Entry) (last : ℕ) (queries : List ChainQuery) (tolds : List ToldPairs) → AreToldAfter history last queries tolds → AreSureTold tolds
+tolds_sure history last [] [] are = All-nil (λ (t : ToldPairs). All IsSure t.answers)
+tolds_sure history last [] (told ∷ more) never = absurd never
+tolds_sure history last (query ∷ queries) [] never = absurd never
+tolds_sure history last (query ∷ queries) (told ∷ more) are =
+    All-cons (λ (t : ToldPairs). All IsSure t.answers) told more (subst (λ (t : ToldPairs). All IsSure t.answers) (sym are.0.told_is) (answers_sure are.0.before query.pairs)) (tolds_sure history told.entry queries more are.1)

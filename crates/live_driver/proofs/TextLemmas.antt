@@ -6,7 +6,10 @@ use Rattle.std.specs.declared.alloc.Global.{Global}
 use Rattle.kr_order.specs.declared.history.Entry.{Entry}
 use Rattle.kr_order.specs.declared.history.DoneEntry.{DoneEntry}
 use Rattle.kr_order.specs.Done.{done_of}
+use Rattle.script_lang.specs.declared.chain.ChainPlan.{ChainPlan}
 use Rattle.script_lang.specs.declared.live.LivePlan.{LivePlan}
+use Rattle.live_chain.specs.declared.run.ChainRun.{ChainRun}
+use Rattle.live_chain.specs.Lawful.{ChainLawful}
 use Rattle.cluster_parts.specs.PartsStanding.{history_of}
 use Rattle.cluster_sim.proofs.PartsLemmas.{history_of-done_of}
 use Rattle.live_service.specs.declared.calls.LiveAnswer.{LiveAnswer}
@@ -16,8 +19,8 @@ use Rattle.kronos_runs.specs.declared.run.RunError.{RunError}
 use Rattle.kronos_runs.specs.declared.run.RunError.TheVariants.{Write, Memory}
 use Rattle.kronos_runs.specs.Runs.{IsWritten, exit_after}
 use Rattle.live_driver.specs.declared.form.Form.{Form}
-use Rattle.live_driver.specs.Text.{live_text}
-use Rattle.live_driver.specs.Due.{IsTextOf, IsRefusalOf, EndsOnInput}
+use Rattle.live_driver.specs.Text.{live_text, chain_text}
+use Rattle.live_driver.specs.Due.{IsTextOf, IsTextOfChain, IsRefusalOf, EndsOnInput}
 
 -- a journal is of one history
 pub history_is : (journal : List DoneEntry) (history : List Entry) → journal ≡ done_of history → history_of journal ≡ history
@@ -38,3 +41,9 @@ pub text_so : {E : Type 0} (plan : LivePlan) (answers : List (List LiveAnswer)) 
 text_so {E} plan answers journal history (Ok text) is lawful made =
     record { answers = answers; history = history; lawful = lawful; text_is = made ∙ ap (live_text answers) (history_is journal history is) }
 text_so {E} plan answers journal history (Err stop) is lawful made = tt
+
+-- and so is that of a chain
+pub chain_text_so : {E : Type 0} (plan : ChainPlan) (run : ChainRun) (result : Result (Vec ℕ Global) E) → ChainLawful plan run → IfOk result (λ text. text.items ≡ chain_text run.head.told run.middle.told run.tail.told (history_of run.head.journal)) → IfOk result (λ text. IsTextOfChain plan text.items)
+chain_text_so {E} plan run (Ok text) lawful made =
+    record { run = run; lawful = lawful; text_is = made ∙ ap (chain_text run.head.told run.middle.told run.tail.told) (history_is run.head.journal plan.entries lawful.head.journal) }
+chain_text_so {E} plan run (Err stop) lawful made = tt

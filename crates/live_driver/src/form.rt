@@ -11,6 +11,8 @@ use std::rc::RcStr;
 pub enum Form {
     /// `live`: the calls of the clients that are read, each client's on a thread of its own.
     Live,
+    /// `chain`: the entries and the queries that are read, by three nodes on threads of their own.
+    Chain,
 }
 
 /// What the words ask for; `None` where they are no form.
@@ -31,6 +33,8 @@ fn word_form(word: &RcStr) -> Option<Form>
 {
     if word.as_str() == "live" {
         Some(Form::Live)
+    } else if word.as_str() == "chain" {
+        Some(Form::Chain)
     } else {
         None
     }

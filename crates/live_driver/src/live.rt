@@ -16,7 +16,9 @@ use std::thread::Threads;
 
 /// Runs the forms that have threads: with the word `live` it reads the whole source as live input, of at most 1,048,576
 /// bytes, makes the calls of each client on a thread of its own and by way of the gate, and writes what each was told, and
-/// the history, which is one and lawful. Any other words are no form. The answer is the first refusal that is met, in the
+/// the history, which is one and lawful. With the word `chain` it reads the source as the input of a chain, runs its three
+/// nodes and their readers on threads of their own and by way of the gate, and writes what each reader told, and the history,
+/// which is that of all nodes. Any other words are no form. The answer is the first refusal that is met, in the
 /// order words, input, lines, run. No promise is made that the call returns: a client waits for the turn of another.
 ///
 /// `complete`: where no read and no write fails, input of at most so many bytes ends in `Done` where it is in the grammar
@@ -39,6 +41,8 @@ pub fn kronos_live<R: Threads + Wait + Sync, S: Source, K: Sink, G: Gate + Sync>
     // proof steps: the laws do nothing when they run
     script_lang::laws::bad_live_lines_are_in_no_plan();
     script_lang::laws::the_bad_live_line_is_one();
+    script_lang::chain_laws::bad_chain_lines_are_in_no_plan();
+    script_lang::chain_laws::the_bad_chain_line_is_one();
     run_words(rt, alloc, words, source, sink, gate)
 }
 

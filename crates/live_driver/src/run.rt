@@ -7,6 +7,7 @@ ghost use Rattle.live_driver.specs.declared.form.Form.{Form as FormOf};
 ghost use Rattle.live_driver.specs.Due.{EndsOnInput, IsTextOf};
 
 use crate::form::Form;
+use crate::nodes::run_nodes;
 use crate::print::text_of_run;
 use kr_order::NoMemory;
 use kr_text::{Gate, Sink};
@@ -32,6 +33,7 @@ pub fn run_bytes<R: Threads + Wait + Sync, K: Sink, G: Gate + Sync>(
 {
     match form {
         Form::Live => run_plan(rt, alloc, bytes, sink, gate),
+        Form::Chain => run_nodes(rt, alloc, bytes, sink, gate),
     }
 }
 
