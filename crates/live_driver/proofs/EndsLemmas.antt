@@ -1,5 +1,6 @@
 -- How the ends of the program follow from those of its parts, and that a call that is served ends as its input says.
 use Rattle.std.proofs.Common.{◌≡◌, ℕ, inl, inr, List, [], ◌∷◌, refl, sym, ap, ◌∙◌, subst, arith}
+use Rattle.std.specs.Prelude.{codes}
 use Rattle.script_lang.specs.ChainLaws.{BadChainLinesAreInNoPlan, TheBadChainLineIsOne}
 use Rattle.script_lang.specs.LiveLaws.{BadLiveLinesAreInNoPlan, TheBadLiveLineIsOne}
 use Rattle.kronos_runs.specs.declared.exit.Exit.{Exit}
@@ -12,18 +13,12 @@ use Rattle.live_driver.specs.Forms.{AskFor, IsForm}
 use Rattle.live_driver.specs.Due.{IsRunOf, IsRefusalOf, IsEndOn}
 use Rattle.live_driver.specs.Ends.{Ends, EndsAsInput}
 
--- the first byte of the first word
-first_byte : List (List ℕ) → ℕ
-first_byte [] = 0
-first_byte ([] ∷ words) = 0
-first_byte ((byte ∷ bytes) ∷ words) = byte
-
 -- words ask for one form
 one_form : (form other : Form) (words : List (List ℕ)) → AskFor form words → AskFor other words → form ≡ other
 one_form Live Live words asked asked' = refl
 one_form Chain Chain words asked asked' = refl
-one_form Live Chain words asked asked' = absurd (omega (arith, ap first_byte (sym asked ∙ asked')))
-one_form Chain Live words asked asked' = absurd (omega (arith, ap first_byte (sym asked ∙ asked')))
+one_form Live Chain words asked asked' = let e : codes "live" ∷ [] ≡ codes "chain" ∷ [] = sym asked ∙ asked' in cc
+one_form Chain Live words asked asked' = let e : codes "chain" ∷ [] ≡ codes "live" ∷ [] = sym asked ∙ asked' in cc
 
 -- bytes spell at most one plan, or they have one first bad line
 pub record InputIsOne : Type 0 where
