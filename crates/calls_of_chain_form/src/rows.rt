@@ -13,15 +13,27 @@ fn both_ends_of_a_chain_tell_of_one_order(rt: HostRuntime) -> Result<(), Fail> {
             Exit::Done,
             "node 1\nseen 3 before\nnode 2\nnode 3\nseen 3 after\nhistory 3\n1 c1 1 create = created 1\n2 c1 2 create = created 2\n3 c1 3 assign 1!2 = assigned kept\nend\n",
         ),
-        ("chain\ncreate 1\nquery 2 2 1,1\n", Exit::BadLine(3), "bad line 3\n"),
-        ("chain\n", Exit::Done, "node 1\nnode 2\nnode 3\nhistory 0\nend\n"),
+        (
+            "chain\ncreate 1\nquery 2 2 1,1\n",
+            Exit::BadLine(3),
+            "bad line 3\n",
+        ),
+        (
+            "chain\n",
+            Exit::Done,
+            "node 1\nnode 2\nnode 3\nhistory 0\nend\n",
+        ),
     ] {
         let mut words = Vec::new(rt.alloc());
         words.push(RcStr::from_str(rt.alloc(), "chain")?)?;
         let mut source = NoFaultSource::new(input.as_bytes().to_vec(rt.alloc())?);
         let mut sink = FailingSink::new(rt.alloc(), 512, Vec::new(rt.alloc()))?;
         let end = kronos_live(&rt, rt.alloc(), &words, &mut source, &mut sink, &OpenGate);
-        assert_eq!(rt; (end, core::str::from_utf8(sink.bytes())?), (exit, text), "{input}");
+        assert_eq!(rt;
+            (end, core::str::from_utf8(sink.bytes())?),
+            (exit, text),
+            "{input}"
+        );
     }
     Ok(())
 }

@@ -19,8 +19,6 @@ mod order;
 mod pairs;
 mod print;
 mod read;
-#[cfg(test)]
-mod tests;
 
 pub use bring::{ImportStop, import};
 pub use commands::Commands;

@@ -14,8 +14,6 @@ mod reader;
 mod ring;
 mod run;
 mod stage;
-#[cfg(test)]
-mod tests;
 
 pub use reader::Tolds;
 pub use run::{ChainNode, ChainRun, run_chain};

@@ -1,4 +1,6 @@
-use crate::{ImportStop, import, put_import};
+//! Small logs, and what is imported and printed of them.
+
+use clock_import::{ImportStop, import, put_import};
 use kr_order::Command;
 use std::alloc::Global;
 use std::process::Abort;

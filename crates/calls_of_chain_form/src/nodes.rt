@@ -1,8 +1,8 @@
 //! Runs of small plans: what they tell, and that nodes and readers run at the same time.
 
-use super::*;
 use kr_order::{Answer, ClientId, NoMemory};
 use kr_text::{Gate, OpenGate, Point};
+use live_chain::{ChainNode, ChainRun, run_chain};
 use script_lang::read_chain;
 use std::alloc::Global;
 use std::sync::Wait;
