@@ -1,9 +1,8 @@
 -- How the parts of a bag go together.
 use Rattle.std.proofs.Common.{◌≡◌, ◌≢◌, ℕ, zero, suc, ◌+◌, ◌-◌, ◌*◌, ◌/◌, ◌%◌, ◌^◌, ◌<◌, ◌≤◌, min, Bool, true, false, cond, eqb, ◌||◌, not, List, [], ◌∷◌, ◌++◌, length, take, drop, get_or, set, get_or-set_same, get_or-set_other, refl, sym, ap, subst, ◌∙◌, arith, inl, inr}
-use Rattle.std.specs.Prelude.{All, sum_by, map, slice_get, Option, Some, None}
-use Rattle.std.proofs.lemmas.Option.{slice_get_past}
+use Rattle.std.specs.Prelude.{All, sum_by, slice_get, option_map, IfSome, Option, Some, None}
+use Rattle.std.proofs.lemmas.Option.{slice_get_within, get_or_from_slice_get}
 use Rattle.std.proofs.lemmas.List.Sums.{sum_by_push}
-use Rattle.std.proofs.Math.ListN.{get_or-map}
 use Rattle.std.specs.Int.{bit_at}
 use Rattle.std.proofs.lemmas.Bool.{cases_eq, eq-eqb, ne_eqb}
 use Rattle.std.proofs.lemmas.List.{length_push, length-set, length-map, take_at}
@@ -12,7 +11,7 @@ use Rattle.std.proofs.lemmas.Nat.Bits.{bit_at-zero}
 use Rattle.kr_wire.specs.Decoding.{IsSpelling}
 use Rattle.net_bag.specs.Index.{bit_in, mark_bit, closed_bit, words_for, IsIndexed, IsFirstUnsetIn}
 use Rattle.kr_order.specs.Marks.{is_marked}
-use Rattle.net_bag.specs.Sent.{Sent, spelling_at, sent_after, is_open, IsNextOpen, HasNoOpen}
+use Rattle.net_bag.specs.Sent.{Sent, sent_after, is_open, IsNextOpen, HasNoOpen}
 use Rattle.net_bag.specs.Kept.{IsKept}
 
 -- a default put at the end changes nothing that is looked up
@@ -65,19 +64,11 @@ kept_push spellings lost delivered closed bytes spelling was spells room =
       counted = omega (arith, sum_by_push (λ s. length s) spellings spelling, was.counted);
     }
 
--- no packet has this number
-pub spelling_missed : {item : Type 0} (f : item → List ℕ) (xs : List item) (sent : Sent) (k : ℕ) → map f xs ≡ sent.spellings → length xs ≤ k - 1 → None ≡ spelling_at sent k
-spelling_missed f xs sent k view past = by_test (eqb k 0)
-  where
-    by_test : (b : Bool) → None ≡ cond b None (slice_get sent.spellings (k - 1))
-    by_test true = refl
-    by_test false = sym (slice_get_past sent.spellings (k - 1) (omega (arith, past, length-map xs f, ap length view)))
-
--- what stands in the bag spells a packet
-pub spelling_fits : {item : Type 0} (f : item → List ℕ) (xs : List item) (i : ℕ) (x : item) → All IsSpelling (map f xs) → i < length xs → x ≡ get_or xs i x → IsSpelling (f x)
-spelling_fits f xs i x each within is =
-    let there : get_or (map f xs) i (f x) ≡ f x = get_or-map f xs i x ∙ ap f (sym is) in
-    subst IsSpelling there (All-get_or IsSpelling (map f xs) i (f x) (omega (arith, within, length-map xs f)) each)
+-- what is found in the bag spells a packet
+pub spelling_found : {item : Type 0} (f : item → List ℕ) (spellings : List (List ℕ)) (i : ℕ) (found : Option item) → All IsSpelling spellings → option_map f found ≡ slice_get spellings i → IfSome found (λ x. IsSpelling (f x))
+spelling_found f spellings i None each is = tt
+spelling_found f spellings i (Some x) each is =
+    subst IsSpelling (get_or_from_slice_get spellings i (f x) [] (sym is)) (All-get_or IsSpelling spellings i [] (slice_get_within spellings i (f x) (sym is)) each)
 
 -- the same parts under other names
 pub kept_same : (spellings spellings' : List (List ℕ)) (lost lost' delivered delivered' : List Bool) (closed closed' : List ℕ) (bytes bytes' : ℕ) → spellings' ≡ spellings → lost' ≡ lost → delivered' ≡ delivered → closed' ≡ closed → bytes' ≡ bytes → IsKept spellings lost delivered closed bytes → IsKept spellings' lost' delivered' closed' bytes'

@@ -1,3 +1,4 @@
 pub mod Sent
 pub mod Index
 pub mod Kept
+pub mod Texts

@@ -8,6 +8,7 @@ ghost use Rattle.kr_order.specs.Marks.{is_marked, marked};
 ghost use Rattle.net_bag.specs.Sent.{nothing_sent, sent_after, spelling_at, IsSent, bytes_of, IsNextOpen, HasNoOpen, IsTo};
 
 use crate::bits::{first_unset, make_room, set_bit};
+use crate::texts::Texts;
 use kr_order::{NoMemory, Node, Packet};
 use kr_wire::{addressee, encode};
 use std::alloc::Global;
@@ -19,7 +20,7 @@ const BAG_LIMIT: usize = 1 << 56;
 /// The spellings of all packets ever sent, with two marks each.
 #[derive(Debug, Drop)]
 pub struct Bag {
-    spellings: Vec<Vec<u8>>,
+    spellings: Texts,
     lost: Vec<bool>,
     delivered: Vec<bool>,
     // bit k - 1 is 1 where packet k was lost or delivered
@@ -28,20 +29,18 @@ pub struct Bag {
 }
 
 impl Model for Bag {
-    ghost use Rattle.std.specs.Prelude.{map};
     ghost use Rattle.net_bag.specs.Sent.{Sent};
     ghost use Rattle.net_bag.specs.Kept.{IsKept};
 
     ghost Value = { Sent };
 
     ghost view = { λ bag. record {
-      spellings = map (λ bytes. bytes.items) bag.spellings.items;
+      spellings = bag.spellings;
       lost = bag.lost.items;
       delivered = bag.delivered.items;
     } };
 
-    ghost invariant = { λ bag. IsKept (map (λ bytes. bytes.items) bag.spellings.items)
-        bag.lost.items bag.delivered.items bag.closed.items bag.bytes };
+    ghost invariant = { λ bag. IsKept bag.spellings bag.lost.items bag.delivered.items bag.closed.items bag.bytes };
 }
 
 impl Bag {
@@ -50,7 +49,7 @@ impl Bag {
         ensures { result ≡ nothing_sent }
     {
         Bag {
-            spellings: Vec::new(alloc),
+            spellings: Texts::new(alloc),
             lost: Vec::new(alloc),
             delivered: Vec::new(alloc),
             closed: Vec::new(alloc),
@@ -70,14 +69,13 @@ impl Bag {
         if count >= BAG_LIMIT {
             return Err(NoMemory);
         }
-        let alloc = *self.spellings.allocator();
-        let spelling = encode(alloc, packet)?;
-        self.spellings.reserve(1)?;
+        let spelling = encode(self.spellings.allocator(), packet)?;
         self.lost.reserve(1)?;
         self.delivered.reserve(1)?;
-        make_room(&mut self.closed, count)?;
+        self.closed.reserve(1)?;
+        self.spellings.push(spelling.as_slice())?;
+        make_room(&mut self.closed, count);
         self.bytes = self.bytes.saturating_add(spelling.len() as u64);
-        self.spellings.push_reserved(spelling);
         self.lost.push_reserved(false);
         self.delivered.push_reserved(false);
         Ok(count as u64 + 1)
@@ -91,10 +89,7 @@ impl Bag {
         if k == 0 {
             return None;
         }
-        match self.spellings.get((k - 1) as usize) {
-            Some(spelling) => Some(spelling.as_slice()),
-            None => None,
-        }
+        self.spellings.get((k - 1) as usize)
     }
 
     /// Where packet k goes, by its header alone; `None` exactly where k is 0 or past the last packet.

@@ -1,10 +1,8 @@
 //! Words of bits: bit i of them is bit i % 64 of word i / 64.
 
-ghost use Rattle.std.specs.Prelude.{◌≡◌, ◌≤◌, ◌<◌, ℕ, ◌+◌, ◌*◌, ◌^◌, ◌==◌, length, if◌then◌else◌, IfSome, IfNone, OnOk, OnErr};
+ghost use Rattle.std.specs.Prelude.{◌≡◌, ◌≤◌, ◌<◌, ℕ, ◌+◌, ◌*◌, ◌^◌, ◌==◌, length, vec_len, vec_capacity, if◌then◌else◌, IfSome, IfNone};
 ghost use Rattle.std.specs.Int.{bit_at};
 ghost use Rattle.net_bag.specs.Index.{bit_in, words_for, IsFirstUnset, IsFirstUnsetIn};
-
-use kr_order::NoMemory;
 
 // The least place from `low` on whose bit of the word is 0.
 fn unset_in(word: u64, low: u32) -> Option<u32>
@@ -37,15 +35,14 @@ pub(crate) fn first_unset(words: &[u64], low: usize) -> Option<usize>
 }
 
 // Makes room for one bit more where so many are there. It is 0.
-pub(crate) fn make_room(words: &mut Vec<u64>, count: usize) -> Result<(), NoMemory>
-    requires { 64 * length words.old.items < 2 ^ 63 }
-    ensures ok { OnOk result (words.new.items ≡ words_for words.old.items count) }
-    ensures err { OnErr result (words.new.items ≡ words.old.items) }
+pub(crate) fn make_room(words: &mut Vec<u64>, count: usize)
+    requires few { 64 * length words.old.items < 2 ^ 63 }
+    requires room { vec_len words.old < vec_capacity words.old }
+    ensures { words.new.items ≡ words_for words.old.items count }
 {
     if count == 64 * words.len() {
-        words.push(0)?;
+        words.push_reserved(0);
     }
-    Ok(())
 }
 
 // Sets bit i.

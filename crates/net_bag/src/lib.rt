@@ -8,5 +8,6 @@
 
 mod bag;
 mod bits;
+mod texts;
 
 pub use bag::Bag;

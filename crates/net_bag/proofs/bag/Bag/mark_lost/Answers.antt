@@ -1,6 +1,4 @@
 use Rattle.std.proofs.Common.{◌≡◌, ◌-◌, ◌*◌, ◌<◌, ◌++◌, List, length, cond, eqb, take, drop, set, true, sym, ap, ◌∙◌, subst, arith}
-use Rattle.std.specs.Prelude.{map}
-use Rattle.std.proofs.lemmas.List.{length-map}
 use Rattle.net_bag.specs.Index.{bit_in}
 use Rattle.kr_order.specs.Marks.{marked}
 use Rattle.net_bag.specs.Sent.{Sent}
@@ -15,7 +13,7 @@ set_bit-requires c =
 pub invariant_of-self : goal.invariant_of-self
 invariant_of-self c =
     let inside = c.self.inside in
-    let spellings = map (λ bytes. bytes.items) inside.spellings.items in
+    let spellings = inside.spellings in
     let words = c.set_bit.new.words in
     let i = c.args.k - 1 in
     let within : i < length spellings = omega (arith, c.requires.first, c.requires.last, ap (λ (s : Sent). length s.spellings) c.self.view_is) in

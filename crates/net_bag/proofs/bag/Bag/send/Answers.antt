@@ -1,6 +1,4 @@
 use Rattle.std.proofs.Common.{◌≡◌, ◌+◌, ◌-◌, ◌^◌, ◌<◌, ◌++◌, ◌∷◌, [], false, min, length, sym, ap, ◌∙◌, subst, arith}
-use Rattle.std.specs.Prelude.{map}
-use Rattle.std.proofs.lemmas.List.{map_push, length-map}
 use Rattle.kr_wire.specs.Spelling.{spelling}
 use Rattle.kr_wire.specs.Decoding.{IsSpelling}
 use Rattle.net_bag.specs.Index.{words_for}
@@ -12,23 +10,22 @@ pub invariant_of-self-2 : goal.invariant_of-self-2
 invariant_of-self-2 c =
     let inside = c.self.inside in
     let one = c.in_ok-spelling.spelling in
-    let spellings = map (λ v. v.items) inside.spellings.items in
-    let e1 : map (λ v. v.items) c.push_reserved.new.self.items ≡ spellings ++ one.items ∷ [] = ap (map (λ v. v.items)) (c.push_reserved.ensures.items ∙ ap (λ xs. xs ++ one ∷ []) c.reserve.ensures.items) ∙ map_push (λ v. v.items) inside.spellings.items one in
-    let e2 : c.push_reserved-2.new.self.items ≡ inside.lost.items ++ false ∷ [] = c.push_reserved-2.ensures.items ∙ ap (λ xs. xs ++ false ∷ []) c.reserve-2.ensures.items in
-    let e3 : c.push_reserved-3.new.self.items ≡ inside.delivered.items ++ false ∷ [] = c.push_reserved-3.ensures.items ∙ ap (λ xs. xs ++ false ∷ []) c.reserve-3.ensures.items in
-    let count : c.len-count.result ≡ length spellings = omega (arith, length-map inside.spellings.items (λ v. v.items)) in
-    let e4 : c.make_room.new.words.items ≡ words_for inside.closed.items (length spellings) = c.in_ok-make_room.ensures.ok ∙ ap (words_for inside.closed.items) count in
+    let e1 = c.in_ok-push.ensures.ok ∙ ap (λ text. inside.spellings ++ text ∷ []) c.as_slice.ensures.value in
+    let e2 : c.push_reserved.new.self.items ≡ inside.lost.items ++ false ∷ [] = c.push_reserved.ensures.items ∙ ap (λ xs. xs ++ false ∷ []) c.reserve.ensures.items in
+    let e3 : c.push_reserved-2.new.self.items ≡ inside.delivered.items ++ false ∷ [] = c.push_reserved-2.ensures.items ∙ ap (λ xs. xs ++ false ∷ []) c.reserve-2.ensures.items in
+    let count : c.len-count.result ≡ length inside.spellings = omega arith in
+    let e4 : c.make_room.new.words.items ≡ words_for inside.closed.items (length inside.spellings) = c.make_room.ensures ∙ ap (λ words. words_for words c.len-count.result) c.reserve-3.ensures.items ∙ ap (words_for inside.closed.items) count in
     let e5 : c.saturating_add-self-inside.result ≡ min (inside.bytes + length one.items) (2 ^ 64 - 1) = omega arith in
     let spells : IsSpelling one.items = (c.args.packet.now, c.requires, c.in_ok-spelling.ensures) in
-    let room : length spellings < 2 ^ 56 = omega arith in
-    kept_same _ _ _ _ _ _ _ _ _ _ e1 e2 e3 e4 e5 (kept_push spellings inside.lost.items inside.delivered.items inside.closed.items inside.bytes one.items c.self.invariant spells room)
+    let room : length inside.spellings < 2 ^ 56 = omega arith in
+    kept_same _ _ _ _ _ _ _ _ _ _ e1 e2 e3 e4 e5 (kept_push inside.spellings inside.lost.items inside.delivered.items inside.closed.items inside.bytes one.items c.self.invariant spells room)
 
 pub returns-clause-ok : goal.returns-clause-ok
 returns-clause-ok c =
     let inside = c.self.inside in
     let one = c.in_ok-spelling.spelling in
-    let before : Sent = record { spellings = map (λ v. v.items) inside.spellings.items; lost = inside.lost.items; delivered = inside.delivered.items } in
-    let e1 : map (λ v. v.items) c.push_reserved.new.self.items ≡ before.spellings ++ one.items ∷ [] = ap (map (λ v. v.items)) (c.push_reserved.ensures.items ∙ ap (λ xs. xs ++ one ∷ []) c.reserve.ensures.items) ∙ map_push (λ v. v.items) inside.spellings.items one in
-    let e2 : c.push_reserved-2.new.self.items ≡ before.lost ++ false ∷ [] = c.push_reserved-2.ensures.items ∙ ap (λ xs. xs ++ false ∷ []) c.reserve-2.ensures.items in
-    let e3 : c.push_reserved-3.new.self.items ≡ before.delivered ++ false ∷ [] = c.push_reserved-3.ensures.items ∙ ap (λ xs. xs ++ false ∷ []) c.reserve-3.ensures.items in
+    let before : Sent = record { spellings = inside.spellings; lost = inside.lost.items; delivered = inside.delivered.items } in
+    let e1 = c.in_ok-push.ensures.ok ∙ ap (λ text. inside.spellings ++ text ∷ []) c.as_slice.ensures.value in
+    let e2 : c.push_reserved.new.self.items ≡ before.lost ++ false ∷ [] = c.push_reserved.ensures.items ∙ ap (λ xs. xs ++ false ∷ []) c.reserve.ensures.items in
+    let e3 : c.push_reserved-2.new.self.items ≡ before.delivered ++ false ∷ [] = c.push_reserved-2.ensures.items ∙ ap (λ xs. xs ++ false ∷ []) c.reserve-2.ensures.items in
     sent_same before one.items _ _ _ e1 e2 e3 ∙ ap (λ sent. sent_after sent one.items) c.self.view_is ∙ ap (sent_after c.args.self.now) c.in_ok-spelling.ensures
