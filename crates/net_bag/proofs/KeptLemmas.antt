@@ -1,13 +1,12 @@
 -- How the parts of a bag go together.
 use Rattle.std.proofs.Common.{◌≡◌, ◌≢◌, ℕ, zero, suc, ◌+◌, ◌-◌, ◌*◌, ◌/◌, ◌%◌, ◌^◌, ◌<◌, ◌≤◌, min, Bool, true, false, cond, eqb, ◌||◌, not, List, [], ◌∷◌, ◌++◌, length, take, drop, get_or, set, get_or-set_same, get_or-set_other, refl, sym, ap, subst, ◌∙◌, arith, inl, inr}
-use Rattle.std.specs.Prelude.{All, sum_by, slice_get, option_map, IfSome, Option, Some, None}
+use Rattle.std.specs.Prelude.{All, slice_get, option_map, Option, Some, None, IfSome}
 use Rattle.std.proofs.lemmas.Option.{slice_get_within, get_or_from_slice_get}
 use Rattle.std.proofs.lemmas.List.Sums.{sum_by_push}
 use Rattle.std.specs.Int.{bit_at}
 use Rattle.std.proofs.lemmas.Bool.{cases_eq, eq-eqb, ne_eqb}
-use Rattle.std.proofs.lemmas.List.{length_push, length-set, length-map, take_at}
+use Rattle.std.proofs.lemmas.List.{length_push, length-set, take_at}
 use Rattle.std.proofs.lemmas.List.Elements.{All-push, All-get_or}
-use Rattle.std.proofs.lemmas.Nat.Bits.{bit_at-zero}
 use Rattle.kr_wire.specs.Decoding.{IsSpelling}
 use Rattle.net_bag.specs.Index.{bit_in, mark_bit, closed_bit, words_for, IsIndexed, IsFirstUnsetIn}
 use Rattle.kr_order.specs.Marks.{is_marked}
@@ -64,11 +63,12 @@ kept_push spellings lost delivered closed bytes spelling was spells room =
       counted = omega (arith, sum_by_push (λ s. length s) spellings spelling, was.counted);
     }
 
--- what is found in the bag spells a packet
-pub spelling_found : {item : Type 0} (f : item → List ℕ) (spellings : List (List ℕ)) (i : ℕ) (found : Option item) → All IsSpelling spellings → option_map f found ≡ slice_get spellings i → IfSome found (λ x. IsSpelling (f x))
-spelling_found f spellings i None each is = tt
-spelling_found f spellings i (Some x) each is =
-    subst IsSpelling (get_or_from_slice_get spellings i (f x) [] (sym is)) (All-get_or IsSpelling spellings i [] (slice_get_within spellings i (f x) (sym is)) each)
+-- what stands in the bag spells a packet
+pub spelling_fits : {item : Type 0} (f : item → List ℕ) (found : Option item) (xs : List (List ℕ)) (i : ℕ) → All IsSpelling xs → option_map f found ≡ slice_get xs i → IfSome found (λ x. IsSpelling (f x))
+spelling_fits f None xs i each is = tt
+spelling_fits f (Some x) xs i each is =
+    let there : get_or xs i (f x) ≡ f x = get_or_from_slice_get xs i (f x) (f x) (sym is) in
+    subst IsSpelling there (All-get_or IsSpelling xs i (f x) (slice_get_within xs i (f x) (sym is)) each)
 
 -- the same parts under other names
 pub kept_same : (spellings spellings' : List (List ℕ)) (lost lost' delivered delivered' : List Bool) (closed closed' : List ℕ) (bytes bytes' : ℕ) → spellings' ≡ spellings → lost' ≡ lost → delivered' ≡ delivered → closed' ≡ closed → bytes' ≡ bytes → IsKept spellings lost delivered closed bytes → IsKept spellings' lost' delivered' closed' bytes'

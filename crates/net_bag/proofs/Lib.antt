@@ -1,3 +1,3 @@
 pub mod BitLemmas
 pub mod KeptLemmas
-pub mod TextLemmas
+pub mod SegmentLemmas

@@ -1,4 +1,4 @@
 pub mod Sent
 pub mod Index
+pub mod Segments
 pub mod Kept
-pub mod Texts

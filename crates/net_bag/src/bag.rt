@@ -7,8 +7,8 @@ ghost use Rattle.kr_wire.specs.Decoding.{IsSpelling};
 ghost use Rattle.kr_order.specs.Marks.{is_marked, marked};
 ghost use Rattle.net_bag.specs.Sent.{nothing_sent, sent_after, spelling_at, IsSent, bytes_of, IsNextOpen, HasNoOpen, IsTo};
 
-use crate::bits::{first_unset, make_room, set_bit};
-use crate::texts::Texts;
+use crate::bits::{first_unset, put_word, set_bit};
+use crate::segments::Segments;
 use kr_order::{NoMemory, Node, Packet};
 use kr_wire::{addressee, encode};
 use std::alloc::Global;
@@ -20,7 +20,7 @@ const BAG_LIMIT: usize = 1 << 56;
 /// The spellings of all packets ever sent, with two marks each.
 #[derive(Debug, Drop)]
 pub struct Bag {
-    spellings: Texts,
+    spellings: Segments,
     lost: Vec<bool>,
     delivered: Vec<bool>,
     // bit k - 1 is 1 where packet k was lost or delivered
@@ -49,7 +49,7 @@ impl Bag {
         ensures { result ≡ nothing_sent }
     {
         Bag {
-            spellings: Texts::new(alloc),
+            spellings: Segments::new(alloc),
             lost: Vec::new(alloc),
             delivered: Vec::new(alloc),
             closed: Vec::new(alloc),
@@ -69,15 +69,15 @@ impl Bag {
         if count >= BAG_LIMIT {
             return Err(NoMemory);
         }
-        let spelling = encode(self.spellings.allocator(), packet)?;
+        let spelling = encode(*self.lost.allocator(), packet)?;
         self.lost.reserve(1)?;
         self.delivered.reserve(1)?;
         self.closed.reserve(1)?;
-        self.spellings.push(spelling.as_slice())?;
-        make_room(&mut self.closed, count);
-        self.bytes = self.bytes.saturating_add(spelling.len() as u64);
+        self.spellings.push(&spelling)?;
         self.lost.push_reserved(false);
         self.delivered.push_reserved(false);
+        put_word(&mut self.closed, count);
+        self.bytes = self.bytes.saturating_add(spelling.len() as u64);
         Ok(count as u64 + 1)
     }
 

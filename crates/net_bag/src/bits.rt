@@ -1,7 +1,8 @@
 //! Words of bits: bit i of them is bit i % 64 of word i / 64.
 
-ghost use Rattle.std.specs.Prelude.{◌≡◌, ◌≤◌, ◌<◌, ℕ, ◌+◌, ◌*◌, ◌^◌, ◌==◌, length, vec_len, vec_capacity, if◌then◌else◌, IfSome, IfNone};
+ghost use Rattle.std.specs.Prelude.{◌≡◌, ◌≤◌, ◌<◌, ℕ, ◌+◌, ◌*◌, ◌^◌, ◌==◌, length, if◌then◌else◌, IfSome, IfNone};
 ghost use Rattle.std.specs.Int.{bit_at};
+ghost use Rattle.std.specs.Vec.{vec_len, vec_capacity};
 ghost use Rattle.net_bag.specs.Index.{bit_in, words_for, IsFirstUnset, IsFirstUnsetIn};
 
 // The least place from `low` on whose bit of the word is 0.
@@ -34,8 +35,8 @@ pub(crate) fn first_unset(words: &[u64], low: usize) -> Option<usize>
     None
 }
 
-// Makes room for one bit more where so many are there. It is 0.
-pub(crate) fn make_room(words: &mut Vec<u64>, count: usize)
+// Puts a word behind the words where one bit more than so many would have no place in them. It is 0.
+pub(crate) fn put_word(words: &mut Vec<u64>, count: usize)
     requires few { 64 * length words.old.items < 2 ^ 63 }
     requires room { vec_len words.old < vec_capacity words.old }
     ensures { words.new.items ≡ words_for words.old.items count }

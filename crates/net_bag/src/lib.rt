@@ -8,6 +8,6 @@
 
 mod bag;
 mod bits;
-mod texts;
+mod segments;
 
 pub use bag::Bag;

@@ -1,4 +1,4 @@
-use Rattle.std.proofs.Common.{◌≡◌, ◌-◌, ◌*◌, ◌<◌, ◌++◌, List, length, cond, eqb, take, drop, set, true, sym, ap, ◌∙◌, subst, arith}
+use Rattle.std.proofs.Common.{◌≡◌, ◌-◌, ◌<◌, ◌++◌, length, cond, eqb, take, drop, set, true, sym, ap, ◌∙◌, subst, arith}
 use Rattle.net_bag.specs.Index.{bit_in}
 use Rattle.kr_order.specs.Marks.{marked}
 use Rattle.net_bag.specs.Sent.{Sent}
