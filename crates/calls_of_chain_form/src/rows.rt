@@ -30,7 +30,7 @@ fn both_ends_of_a_chain_tell_of_one_order(rt: HostRuntime) -> Result<(), Fail> {
         let mut sink = FailingSink::new(rt.alloc(), 512, Vec::new(rt.alloc()))?;
         let end = kronos_live(&rt, rt.alloc(), &words, &mut source, &mut sink, &OpenGate);
         assert_eq!(rt;
-            (end, core::str::from_utf8(sink.bytes())?),
+            (end, str::from_utf8(sink.bytes()).unwrap_or("")),
             (exit, text),
             "{input}"
         );
